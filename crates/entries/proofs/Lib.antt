@@ -1,0 +1,4 @@
+pub mod Events
+pub mod Forming
+pub mod Judging
+pub mod Noting

@@ -1,0 +1,4 @@
+pub mod Dividing
+pub mod Division
+pub mod Numerals
+pub mod Standing
