@@ -39,28 +39,20 @@ pieces-last sep (x ∷ xs) h =
       | false ↦ λ l. ap (onto x) (pieces-last sep xs (omega arith))
     ]) h
 
--- the same of what a cursor has left
-pub left-last : (sep : ℕ) (more : Bool) (xs : List ℕ) (n : ℕ) → more ≡ true → n ≡ leading (apart sep) xs → length xs ≤ n →
-    cond more (pieces sep xs) [] ≡ xs ∷ []
-left-last sep more xs n m e h = ap (λ b. cond b (pieces sep xs) []) m ∙ pieces-last sep xs (omega arith)
+-- the same where the place is known
+pub cut-last : (sep : ℕ) (xs : List ℕ) (n : ℕ) → n ≡ leading (apart sep) xs → length xs ≤ n → pieces sep xs ≡ xs ∷ []
+cut-last sep xs n e h = pieces-last sep xs (omega arith)
 
-pub left-at : (sep : ℕ) (more : Bool) (xs rest : List ℕ) (n : ℕ) → more ≡ true → n ≡ leading (apart sep) xs → n < length xs →
-    rest ≡ drop (n + 1) xs → cond more (pieces sep xs) [] ≡ take (n - 0) xs ∷ cond more (pieces sep rest) []
-left-at sep more xs rest n m e h r =
+pub cut-at : (sep : ℕ) (xs rest : List ℕ) (n : ℕ) → n ≡ leading (apart sep) xs → n < length xs → rest ≡ drop (n + 1) xs →
+    pieces sep xs ≡ take (n - 0) xs ∷ pieces sep rest
+cut-at sep xs rest n e h r =
     let z : n - 0 ≡ n = omega arith in
-    let s : pieces sep xs ≡ take n xs ∷ pieces sep (drop (n + 1) xs) =
-    subst (λ k. pieces sep xs ≡ take k xs ∷ pieces sep (drop (k + 1) xs)) (sym e) (pieces-at sep xs (omega arith)) in
-    let t : pieces sep rest ≡ pieces sep (drop (n + 1) xs) = ap (pieces sep) r in
-    ap (λ b. cond b (pieces sep xs) []) m ∙ s ∙ (λ i. take (sym z i) xs ∷ cond (sym m i) (sym t i) [])
+    subst (λ k. pieces sep xs ≡ take k xs ∷ pieces sep (drop (k + 1) xs)) (sym e) (pieces-at sep xs (omega arith))
+    ∙ (λ i. take (sym z i) xs ∷ pieces sep (sym r i))
 
--- and of how many bytes it has still to look at
-pub fewer-last : (more : Bool) (n : ℕ) → more ≡ true → 0 + (n + 1) ≤ cond more (n + 1) 0
-fewer-last true n m = omega arith
-fewer-last false n m = let z : _≡_ {A = ℕ} 0 1 = cc in omega arith
-
-pub fewer-at : (more : Bool) (xs rest : List ℕ) (n : ℕ) → more ≡ true → n < length xs → rest ≡ drop (n + 1) xs →
-    cond more (length rest + 1) 0 + (length (take (n - 0) xs) + 1) ≤ cond more (length xs + 1) 0
-fewer-at true xs rest n m h r =
+-- and how many bytes are left
+pub fewer-at : (xs rest : List ℕ) (n : ℕ) → n < length xs → rest ≡ drop (n + 1) xs →
+    (length rest + 1) + (length (take (n - 0) xs) + 1) ≤ length xs + 1
+fewer-at xs rest n h r =
     let z : n - 0 ≡ n = omega arith in
     omega (arith, ap length r, length-drop (n + 1) xs, ap (λ k. length (take k xs)) z, length-take-le n xs (omega arith))
-fewer-at false xs rest n m h r = let z : _≡_ {A = ℕ} 0 1 = cc in absurd (omega arith)

@@ -10,9 +10,9 @@ use borrow.Author.Tests.{le-leb, lt-leb}
 use lib.Dec.{leb}
 use lib.ListN.{length, drop, take, getD}
 use Rattle.std.specs.declared.option.Option.the-variants.{None}
-use Rattle.std.specs.shelf.Lists.{ending, leading}
+use Rattle.std.specs.shelf.Lists.{ending}
 use Rattle.std.proofs.shelf.Lists.{at-drop-more}
-use Rattle.text.specs.Fields.{space, digits, number, trimmed}
+use Rattle.text.specs.Fields.{space, digits, trimmed-end}
 
 module _ (n : ℕ) (xs : List ℕ) (i c : ℕ) (here : i < length xs) (is : c ≡ getD xs i 0) where
   step : (b : Bool) → (leb 48 c && leb c 57) ≡ b → digits n (drop i xs) ≡ cond b (digits (n * 10 + (c - 48)) (drop (i + 1) xs)) None
@@ -38,16 +38,10 @@ module _ (n : ℕ) (xs : List ℕ) (i c : ℕ) (here : i < length xs) (is : c �
 pub next-power : (n c i : ℕ) → n < 10 ^ i → 48 ≤ c → c ≤ 57 → n * 10 + (c - 48) < 10 ^ (i + 1)
 next-power n c i h a b = rw (add-one, pow-suc) (omega arith)
 
-pub one-to-five : (xs : List ℕ) → (length xs ≡ 0 → ⊥) → length xs ≤ 5 → number xs ≡ digits 0 xs
-one-to-five xs a b =
-    ap (λ v. cond (v && leb (length xs) 5) (digits 0 xs) None) (le-leb 1 (length xs) (omega arith))
-    ∙ ap (λ v. cond v (digits 0 xs) None) (le-leb (length xs) 5 b)
-
 pub ending-none : (n : ℕ) (xs : List ℕ) → n ≡ 0 → ending space (take n xs) ≡ 0
 ending-none n xs e = ap (λ k. ending space (take k xs)) e
 
-pub trim-is : (t : List ℕ) (before after : ℕ) (g : List ℕ) → before ≡ leading space t → g ≡ drop before t → after ≡ ending space g →
-    take (length g - after - 0) g ≡ trimmed t
-trim-is t before after g a e b =
-    let n : length g - after - 0 ≡ length g - ending space g = omega arith in
-    ap (λ m. take m g) n ∙ ap (λ h. take (length h - ending space h) h) (e ∙ ap (λ m. drop m t) a)
+pub end-is : (t : List ℕ) (after : ℕ) → after ≡ ending space t → take (length t - after - 0) t ≡ trimmed-end t
+end-is t after b =
+    let n : length t - after - 0 ≡ length t - ending space t = omega arith in
+    ap (λ m. take m t) n

@@ -1,9 +1,9 @@
 //! A field of a line: its bytes without the spaces around it, and the number that it writes.
 ghost use mathlib.Core.Path.{_≡_};
 ghost use Prim.Native.Nat.{_≤_};
-ghost use lib.ListN.{length};
+ghost use lib.ListN.{length, drop};
 ghost use Rattle.std.specs.shelf.Lists.{leading, ending};
-ghost use Rattle.text.specs.Fields.{space, trimmed, number as number-of};
+ghost use Rattle.text.specs.Fields.{space, trimmed, trimmed-end, digits as digits-of, number as number-of};
 
 // How many spaces stand at the front.
 fn spaces_before(bytes: &[u8]) -> usize
@@ -29,22 +29,35 @@ fn spaces_after(bytes: &[u8]) -> usize
     bytes.len() - n
 }
 
+// The bytes without the spaces at the front.
+fn without_front(bytes: &[u8]) -> &[u8]
+    ensures { λ r. ⌜ now r ≡ drop (leading space (now (bytes .entry))) (now (bytes .entry)) ⌝ }
+{
+    let n = spaces_before(bytes);
+    let len = bytes.len();
+    &bytes[n..len]
+}
+
+// The bytes without the spaces at the end.
+fn without_end(bytes: &[u8]) -> &[u8]
+    ensures { λ r. ⌜ now r ≡ trimmed-end (now (bytes .entry)) ⌝ }
+{
+    let n = bytes.len() - spaces_after(bytes);
+    &bytes[0..n]
+}
+
 // The bytes without the spaces around them.
 pub fn trim(bytes: &[u8]) -> &[u8]
     ensures { λ r. ⌜ now r ≡ trimmed (now (bytes .entry)) ⌝ }
 {
-    let front = &bytes[spaces_before(bytes)..];
-    let n = front.len() - spaces_after(front);
-    &front[0..n]
+    without_end(without_front(bytes))
 }
 
-// The number that one to five digits write.
-pub fn number(field: &[u8]) -> Option<u32>
-    ensures { λ r. ⌜ r ≡ number-of (now (field .entry)) ⌝ }
+// The number that a few digits write, or None where a byte is no digit.
+fn digits(field: &[u8]) -> Option<u32>
+    requires { ⌜ length (now field) ≤ 5 ⌝ }
+    ensures { λ r. ⌜ r ≡ digits-of 0 (now (field .entry)) ⌝ }
 {
-    if field.is_empty() || field.len() > 5 {
-        return None;
-    }
     let mut n = 0u32;
     for c in field {
         let c = *c;
@@ -54,4 +67,14 @@ pub fn number(field: &[u8]) -> Option<u32>
         n = n * 10 + (c - b'0') as u32;
     }
     Some(n)
+}
+
+// The number that one to five digits write.
+pub fn number(field: &[u8]) -> Option<u32>
+    ensures { λ r. ⌜ r ≡ number-of (now (field .entry)) ⌝ }
+{
+    if field.is_empty() || field.len() > 5 {
+        return None;
+    }
+    digits(field)
 }

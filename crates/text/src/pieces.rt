@@ -1,7 +1,7 @@
 //! A list of bytes, handed out piece by piece between separators.
 ghost use mathlib.Core.Path.{_≡_};
 ghost use mathlib.Core.List.{[], _∷_};
-ghost use Prim.Native.Nat.{_+_};
+ghost use Prim.Native.Nat.{_+_, _≤_};
 ghost use lib.ListN.{length};
 ghost use Rattle.std.specs.shelf.Lists.{leading};
 ghost use Rattle.std.specs.Options.{Cases};
@@ -28,6 +28,39 @@ fn until(bytes: &[u8], separator: u8) -> usize
     bytes.len()
 }
 
+// The first piece of the bytes, and what is left behind it.
+fn cut<'t>(bytes: &'t [u8], separator: u8) -> (&'t [u8], Pieces<'t>)
+    ensures left { λ r. ⌜ pieces separator (now (bytes .entry)) ≡ now (r .0) ∷ pieces-left (r .1) ⌝ }
+    ensures bytes { λ r. ⌜ bytes-left (r .1) + (length (now (r .0)) + 1) ≤ length (now (bytes .entry)) + 1 ⌝ }
+{
+    let n = until(bytes, separator);
+    let len = bytes.len();
+    if n >= len {
+        return (
+            bytes,
+            Pieces {
+                separator,
+                rest: bytes,
+                more: false,
+            },
+        );
+    }
+    let m = n + 1;
+    (
+        &bytes[0..n],
+        Pieces {
+            separator,
+            rest: &bytes[m..len],
+            more: true,
+        },
+    )
+}
+
+// The pieces divide the bytes, whatever bytes and separator are.
+fn division(bytes: &[u8], separator: u8)
+    ensures { λ _. ⌜ Division separator (now (bytes .entry)) ⌝ }
+{}
+
 impl<'t> Pieces<'t> {
     // All pieces of the bytes: the one list of pieces without a separator that gives the bytes back.
     pub fn new(bytes: &'t [u8], separator: u8) -> Pieces<'t>
@@ -35,6 +68,7 @@ impl<'t> Pieces<'t> {
         ensures bytes { λ r. ⌜ bytes-left r ≡ length (now (bytes .entry)) + 1 ⌝ }
         ensures division { λ r. ⌜ Division separator (now (bytes .entry)) ⌝ }
     {
+        division(bytes, separator);
         Pieces {
             separator,
             rest: bytes,
@@ -50,15 +84,8 @@ impl<'t> Pieces<'t> {
         if !self.more {
             return None;
         }
-        let rest = self.rest;
-        let n = until(rest, self.separator);
-        let len = rest.len();
-        if n >= len {
-            self.more = false;
-            return Some(rest);
-        }
-        let m = n + 1;
-        self.rest = &rest[m..len];
-        Some(&rest[0..n])
+        let (piece, left) = cut(self.rest, self.separator);
+        *self = left;
+        Some(piece)
     }
 }

@@ -42,6 +42,12 @@ fn take_all(
     reading
 }
 
+// What a text that is read whole leaves, whatever text and tables are.
+fn whole(text: &[u8], spans: &[Span], journeys: &[Journey])
+    ensures { λ _. ⌜ Whole-If-Read (now (text .entry)) (now (spans .entry)) (now (journeys .entry)) (text-read (now (spans .entry)) (now (journeys .entry)) (now (text .entry))) ⌝ }
+{
+}
+
 impl ClosedReading {
     // Reads a whole text: all its records are entered in the tables, or the first fault is the answer, and then the
     // tables are as before. Every line is tested before the first is entered.
@@ -55,6 +61,7 @@ impl ClosedReading {
         ensures journeys { λ r. ⌜ now (journeys .exit) ≡ journeys-then (now (journeys .entry)) (text-read (now (spans .entry)) (now (journeys .entry)) (now (text .entry))) ⌝ }
         ensures whole { λ r. ⌜ Whole-If-Read (now (text .entry)) (now (spans .entry)) (now (journeys .entry)) (text-read (now (spans .entry)) (now (journeys .entry)) (now (text .entry))) ⌝ }
     {
+        whole(text, spans, journeys);
         let mut lines = Lines::empty();
         if let Err(refusal) = lines.open(text) {
             return Err(Fault {

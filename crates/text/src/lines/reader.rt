@@ -40,6 +40,11 @@ fn passed_over(line: &[u8]) -> bool
     }
 }
 
+// The lines of a text give it back, and each row stands in it, whatever the text is.
+fn lined(text: &[u8])
+    ensures { λ _. ⌜ Lined (now (text .entry)) ⌝ }
+{}
+
 impl<'t> Lines<'t> {
     // A reader of no text.
     pub fn empty() -> Lines<'t>
@@ -57,6 +62,7 @@ impl<'t> Lines<'t> {
         ensures rows { λ r. ⌜ rows-left (now (self .exit)) ≡ cond (leb (length (now (text .entry))) 60000) (rows (now (text .entry))) (rows-left (now (self .entry))) ⌝ }
         ensures lined { λ r. ⌜ Lined (now (text .entry)) ⌝ }
     {
+        lined(text);
         if text.len() > TEXT_MOST {
             return Err(Refusal::Short);
         }
