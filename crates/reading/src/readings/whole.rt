@@ -45,8 +45,7 @@ fn take_all(
 // What a text that is read whole leaves, whatever text and tables are.
 fn whole(text: &[u8], spans: &[Span], journeys: &[Journey])
     ensures { λ _. ⌜ Whole-If-Read (now (text .entry)) (now (spans .entry)) (now (journeys .entry)) (text-read (now (spans .entry)) (now (journeys .entry)) (now (text .entry))) ⌝ }
-{
-}
+{}
 
 impl ClosedReading {
     // Reads a whole text: all its records are entered in the tables, or the first fault is the answer, and then the

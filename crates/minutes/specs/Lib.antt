@@ -1,0 +1,3 @@
+pub mod Minutes
+pub mod Differences
+pub mod Turns

@@ -1,0 +1,5 @@
+pub mod Meaning
+pub mod ExactNarrowing
+pub mod Joins
+pub mod Conditions
+pub mod Tables
