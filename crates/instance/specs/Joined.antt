@@ -1,5 +1,6 @@
 -- The relations of an instance: its spans, and behind them its journeys.
-use mathlib.Core.List.{List}
+use mathlib.Core.Path.{_≡_}
+use mathlib.Core.List.{List, []}
 use mathlib.Core.Bool.{cond}
 use Prim.Native.Nat.{ℕ, _-_}
 use lib.Dec.{ltb}
@@ -18,6 +19,9 @@ use Rattle.spans.specs.Spans.{span-events, span-relations}
 use Rattle.journeys.specs.Journeys.{journey-events, journey-relations}
 use Rattle.bank.specs.Calls.{meant}
 use Rattle.check.specs.Checked.{checked}
+use Rattle.rest.specs.Rest.{Left}
+use Rattle.calls.specs.Calls.{family, left-refusal}
+use Rattle.calls.specs.Replies.{Replies}
 use Rattle.reading.specs.Readings.{Reading}
 use Rattle.table_banks.specs.Verdicts.{spans-verdict, journeys-verdict}
 
@@ -46,3 +50,19 @@ if-tables-good r spans journeys answer =
 -- which relation, if any, a timetable does not meet
 abbrev pub timetable-checked : Reading → List Span → List Journey → List ℕ → Result (Option ℕ) Refusal
 timetable-checked r spans journeys x = if-tables-good r spans journeys (checked (instance-meaning r spans journeys) x)
+
+-- the minutes of an event that are left under the relations of the instance, with everything allowed
+abbrev pub Event-Left : Reading → List Span → List Journey → ℕ → ℕ → Result ℕ Refusal → Type 0
+Event-Left r spans journeys event workspace answer =
+    Replies (left-refusal (r .period) (r .events) (instance-meaning r spans journeys) event workspace)
+    (Left (instance-meaning r spans journeys) (family (r .period) (r .events) []) event) answer
+
+-- the same unless the tables are refused
+abbrev pub Left-Unless : Result (Unit {0}) Refusal → (Result ℕ Refusal → Type 0) → Result ℕ Refusal → Type 0
+Left-Unless (Ok u) P answer = P answer
+Left-Unless (Err f) P answer = answer ≡ Err f
+
+abbrev pub Minutes-Left : Reading → List Span → List Journey → ℕ → ℕ → Result ℕ Refusal → Type 0
+Minutes-Left r spans journeys event workspace =
+    Left-Unless (spans-verdict (r .period) (r .events) (r .spans) spans)
+    (Left-Unless (journeys-verdict (r .events) (r .journeys) journeys) (Event-Left r spans journeys event workspace))

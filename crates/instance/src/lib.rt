@@ -4,11 +4,13 @@ ghost use Prim.Native.Nat.{_<_, _≤_};
 ghost use lib.ListN.{length, getD};
 ghost use Rattle.std.specs.declared.option.Option.the-variants.{Some, None};
 ghost use Rattle.reading.specs.Views.{closed};
-ghost use Rattle.instance.specs.Joined.{timetable-checked};
+ghost use Rattle.instance.specs.Joined.{timetable-checked, Minutes-Left};
 ghost use Rattle.instance.specs.Lines.{Line-Place, part-at};
 use check::check;
+use left::left;
 use pair::Pair;
 use pair::PairBank;
+use plan::Plan;
 use reading::readings::ClosedReading;
 use records::Journey;
 use records::Span;
@@ -32,6 +34,26 @@ pub fn check_timetable(
     let mut second = JourneyBank::blank();
     second.fill(reading, journeys)?;
     check(&Pair { first, second }, minutes)
+}
+
+// The minutes that are left of an event under the instance's relations, with everything allowed: its set in the rest, or
+// 0 where some set of the rest is empty.
+pub fn minutes_left(
+    reading: &ClosedReading,
+    spans: &[Span],
+    journeys: &[Journey],
+    event: u16,
+    workspace: &mut [u64],
+) -> Result<u64, Refusal>
+    ensures { λ r. ⌜ Minutes-Left (closed (now (reading .entry))) (now (spans .entry)) (now (journeys .entry)) event (length (now (workspace .entry))) r ⌝ }
+{
+    let mut first = SpanBank::blank();
+    first.fill(reading, spans)?;
+    let mut second = JourneyBank::blank();
+    second.fill(reading, journeys)?;
+    let mut plan = Plan::blank();
+    plan.make(reading.period(), reading.events())?;
+    left(&plan, &Pair { first, second }, event, workspace)
 }
 
 // The place of span `k` of a table.

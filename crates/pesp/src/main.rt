@@ -1,5 +1,6 @@
 //! Reads an instance from standard input and tells what it says, or why it is refused.
 use instance::check_timetable;
+use instance::minutes_left;
 use instance::part_of;
 use instance::place_of;
 use reading::readings::ClosedReading;
@@ -7,6 +8,8 @@ use records::Journey;
 use records::Span;
 use report::JourneyWords;
 use report::JourneyWordsDisplay;
+use report::MinuteWords;
+use report::MinuteWordsDisplay;
 use report::Refused;
 use report::RefusedDisplay;
 use report::SpanWords;
@@ -65,6 +68,25 @@ fn tell_zeros(
     }
 }
 
+// The minutes that are left of each event, with everything allowed.
+fn tell_left(
+    rt: &LibcRuntime,
+    reading: ClosedReading,
+    spans: &[Span],
+    journeys: &[Journey],
+) -> io::Result<()> {
+    let mut workspace = vec![in rt.alloc(); 0u64; 4096]?;
+    for event in 1..257u16 {
+        if event <= reading.events() {
+            match minutes_left(&reading, spans, journeys, event, workspace.as_mut_slice()) {
+                Ok(set) => println!(rt, "minutes left of event {event}:{}", MinuteWords(set))?,
+                Err(refusal) => println!(rt, "refused {} 0 0 0", refusal.number())?,
+            }
+        }
+    }
+    Ok(())
+}
+
 fn main(rt: LibcRuntime) -> io::Result<()> {
     let mut text = Vec::new(rt.alloc());
     rt.stdin().take(READ_MOST).read_to_end(&mut text)?;
@@ -73,7 +95,8 @@ fn main(rt: LibcRuntime) -> io::Result<()> {
     match ClosedReading::read(text.as_slice(), &mut spans, &mut journeys) {
         Ok(reading) => {
             tell(&rt, reading, &spans, &journeys)?;
-            tell_zeros(&rt, text.as_slice(), reading, &spans, &journeys)
+            tell_zeros(&rt, text.as_slice(), reading, &spans, &journeys)?;
+            tell_left(&rt, reading, &spans, &journeys)
         }
         Err(fault) => println!(rt, "{}", Refused(fault)),
     }

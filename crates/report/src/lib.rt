@@ -85,3 +85,22 @@ pub impl fmt::Display for JourneyWords as JourneyWordsDisplay {
         write!(f, " take at most {cap} minutes together")
     }
 }
+
+// A minute set: its minutes, rising, or the word none.
+#[derive(Clone, Copy)]
+pub struct MinuteWords(pub u64);
+
+pub impl fmt::Display for MinuteWords as MinuteWordsDisplay {
+    fn fmt<W: fmt::Write>(&self, f: &mut fmt::Formatter<W>) -> fmt::Result {
+        let set = self.0;
+        if set == 0 {
+            return write!(f, " none");
+        }
+        for minute in 0..64u32 {
+            if (set >> minute) % 2 == 1 {
+                write!(f, " {minute}")?;
+            }
+        }
+        Ok(())
+    }
+}
