@@ -59,7 +59,7 @@ opened-to n p = record { period = p .period; events = p .events; allowed = p .al
 abbrev pub opening : Contents → Contents
 opening p = opened-to (suc (p .levels)) p
 
--- the sets f, with those given back that the first n entries above the mark cut, the latest first
+-- the sets f with those put back that the first n entries cut, from the latest down to the mark
 abbrev pub given-back : List Entry → ℕ → ℕ → List ℕ → List ℕ
 given-back trail zero mark f = f
 given-back trail (suc n) mark f = cond (leb (suc n) mark) f (given-back trail n mark (set f (entry-at trail n .place) (entry-at trail n .set)))

@@ -26,11 +26,12 @@ Holds (suc n) p l = Shows p l × Holds n (shutting p) (closed l)
 abbrev pub Decided : Contents → List Call → Type 0
 Decided p cs = Holds (p .levels) p (ledger (p .period) (p .events) cs)
 
--- whatever list of calls p came from, q comes from that list followed by this call, and r is what the list says of it
+-- q comes from the calls cs followed by the call c, and its reply r is what those calls say of it
 pub record Onward (p : Contents) (c : Call) (q : Contents) (r : Result (Unit {0}) Refusal) (cs : List Call) : Type 0 where
   pub plan : Decided q (cs ++ c ∷ [])
   pub answer : r ≡ reply (refusal (p .period) (p .events) (ledger (p .period) (p .events) cs) c) tt
 
+-- so whatever calls the plan with the contents p has had
 abbrev pub Goes-On : Contents → Call → Contents → Result (Unit {0}) Refusal → Type 0
 Goes-On p c q r = (cs : List Call) → Decided p cs → Onward p c q r cs
 

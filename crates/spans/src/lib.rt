@@ -32,7 +32,8 @@ fn narrow_from(period: u8, lower: u8, upper: u8, from: u64, to: u64) -> u64
 {
     let width = upper - lower;
     let back = (2 * period - lower - width) % period;
-    from & widen(turn(to & whole(period), back, period), width, period)
+    let turned = turn(to & whole(period), back, period);
+    from & widen(turned, width, period)
 }
 
 // What the span leaves of its second event's set: the first's, turned on by `lower` and widened.
@@ -40,12 +41,8 @@ fn narrow_to(period: u8, lower: u8, upper: u8, from: u64, to: u64) -> u64
     requires { ⌜ Bounds period lower upper ⌝ }
     ensures { λ r. ⌜ r ≡ to-left period lower upper from to ⌝ }
 {
-    to
-        & widen(
-            turn(from & whole(period), lower, period),
-            upper - lower,
-            period,
-        )
+    let turned = turn(from & whole(period), lower, period);
+    to & widen(turned, upper - lower, period)
 }
 
 // Narrows the sets of the span's two events, and says whether one changed.

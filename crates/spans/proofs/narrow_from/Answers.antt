@@ -2,4 +2,4 @@ use Rattle.spans.proofs.Spanning.{from-left-is}
 use Rattle.spans.proofs.narrow_from.Needs as need
 
 pub returns : need.returns
-returns c = from-left-is (c .args .period) (c .args .lower) (c .args .upper) (c .args .from) (c .args .to) _ _ (c .pre .lower) (c .pre .upper) (c .pre .width) (rw (c .whole .ensures) at (c .turn .ensures)) (c .widen .ensures)
+returns c = from-left-is (c .args .period) (c .args .lower) (c .args .upper) (c .args .from) (c .args .to) _ _ (c .pre .lower) (c .pre .upper) (c .pre .width) (rw (c .whole .ensures) at (c .turn-turned .ensures)) (c .widen .ensures)
