@@ -1,90 +1,39 @@
-//! Reads an instance from standard input and tells what it says, or why it is refused.
-use instance::check_timetable;
-use instance::minutes_left;
-use instance::part_of;
-use instance::place_of;
-use reading::readings::ClosedReading;
+//! Finds the earliest timetable of an instance that it reads from standard input.
 use records::Journey;
 use records::Span;
-use report::JourneyWords;
-use report::JourneyWordsDisplay;
-use report::MinuteWords;
-use report::MinuteWordsDisplay;
 use report::Refused;
 use report::RefusedDisplay;
-use report::SpanWords;
-use report::SpanWordsDisplay;
-use report::Summary;
-use report::SummaryDisplay;
+use search::Answer;
+use solve::Solution;
+use solve::solve;
 use std::io;
 use std::io::Read;
-use std::io::Write;
 
 // One byte more than a text may have, so that a longer one is seen to be too long.
 const READ_MOST: u64 = 60_001;
 
-// What was read: the summary, and then each record on a line of its own.
-fn tell(
-    rt: &LibcRuntime,
-    reading: ClosedReading,
-    spans: &[Span],
-    journeys: &[Journey],
-) -> io::Result<()> {
-    println!(rt, "{}", Summary(reading))?;
-    for span in spans.iter().take(reading.spans()) {
-        println!(rt, "{}", SpanWords(*span))?;
-    }
-    for journey in journeys.iter().take(reading.journeys()) {
-        println!(rt, "{}", JourneyWords(*journey))?;
+// A line for each event: its number and its minute.
+fn tell_minutes(rt: &LibcRuntime, events: u16, minutes: &[u8]) -> io::Result<()> {
+    for (i, minute) in minutes.iter().take(events as usize).enumerate() {
+        let event = i.saturating_add(1);
+        println!(rt, "{event} {minute}")?;
     }
     Ok(())
 }
 
-// The line of relation `k`, as it stands in the text.
-fn tell_line(rt: &LibcRuntime, line: &[u8], k: usize) -> io::Result<()> {
-    print!(
-        rt,
-        "the timetable of all zeros does not meet relation {k}: "
-    )?;
-    rt.stdout().write_all(line)?;
-    println!(rt, "")
-}
-
-// What a check of the timetable of all zeros says.
-fn tell_zeros(
-    rt: &LibcRuntime,
-    text: &[u8],
-    reading: ClosedReading,
-    spans: &[Span],
-    journeys: &[Journey],
-) -> io::Result<()> {
-    match check_timetable(&reading, spans, journeys, &[0; 256]) {
-        Ok(None) => println!(rt, "the timetable of all zeros meets every relation"),
-        Ok(Some(k)) => {
-            let place = place_of(&reading, spans, journeys, k).unwrap_or((0, 0));
-            tell_line(rt, part_of(text, place), k)
+// The answer and its number, and then the timetable that was found or the floor to go on from.
+fn tell(rt: &LibcRuntime, solution: Solution, minutes: &[u8]) -> io::Result<()> {
+    match solution.answer {
+        Answer::Found(number) => {
+            println!(rt, "found {number}")?;
+            tell_minutes(rt, solution.events, minutes)
         }
-        Err(refusal) => println!(rt, "refused {} 0 0 0", refusal.number()),
-    }
-}
-
-// The minutes that are left of each event, with everything allowed.
-fn tell_left(
-    rt: &LibcRuntime,
-    reading: ClosedReading,
-    spans: &[Span],
-    journeys: &[Journey],
-) -> io::Result<()> {
-    let mut workspace = vec![in rt.alloc(); 0u64; 4096]?;
-    for event in 1..257u16 {
-        if event <= reading.events() {
-            match minutes_left(&reading, spans, journeys, event, workspace.as_mut_slice()) {
-                Ok(set) => println!(rt, "minutes left of event {event}:{}", MinuteWords(set))?,
-                Err(refusal) => println!(rt, "refused {} 0 0 0", refusal.number())?,
-            }
+        Answer::Nothing(number) => println!(rt, "none {number}"),
+        Answer::Spent(number) => {
+            println!(rt, "spent {number}")?;
+            tell_minutes(rt, solution.events, minutes)
         }
     }
-    Ok(())
 }
 
 fn main(rt: LibcRuntime) -> io::Result<()> {
@@ -92,12 +41,16 @@ fn main(rt: LibcRuntime) -> io::Result<()> {
     rt.stdin().take(READ_MOST).read_to_end(&mut text)?;
     let mut spans = [Span::BLANK; 256];
     let mut journeys = [Journey::BLANK; 64];
-    match ClosedReading::read(text.as_slice(), &mut spans, &mut journeys) {
-        Ok(reading) => {
-            tell(&rt, reading, &spans, &journeys)?;
-            tell_zeros(&rt, text.as_slice(), reading, &spans, &journeys)?;
-            tell_left(&rt, reading, &spans, &journeys)
-        }
+    let mut minutes = [0u8; 256];
+    let mut workspace = vec![in rt.alloc(); 0u64; 4096]?;
+    match solve(
+        text.as_slice(),
+        &mut spans,
+        &mut journeys,
+        &mut minutes,
+        workspace.as_mut_slice(),
+    ) {
+        Ok(solution) => tell(&rt, solution, &minutes),
         Err(fault) => println!(rt, "{}", Refused(fault)),
     }
 }

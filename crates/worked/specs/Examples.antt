@@ -7,20 +7,27 @@ use Rattle.std.specs.declared.option.Option.the-variants.{Some, None}
 use Rattle.refusals.specs.declared.Refusal.the-variants.{Range, Event, Level}
 use Rattle.records.specs.declared.Span.{Span}
 use Rattle.relations.specs.Meaning.{Meaning, Laws}
-use Rattle.spans.specs.Spans.{span-relations}
+use Rattle.relations.specs.Tables.{highest}
+use Rattle.spans.specs.Spans.{span-events, span-relations}
 use Rattle.rest.specs.Rest.{Stable, Rest, narrowed, Suits, Left}
 use Rattle.calls.specs.Calls.{Call, allow, open-level, shut-level, level, allowed, family, entries-of, refusal, ledger}
 use Rattle.calls.specs.Standing.{Closes, Stands}
 
-abbrev span : ℕ → ℕ → ℕ → ℕ → ℕ → Span
-span index from to lower upper = record { index = index; from = from; to = to; lower = lower; upper = upper; weight = 1; place = (0, 0) }
+-- a span of weight 1, whose line of eleven bytes stands at the offset
+abbrev pub span : ℕ → ℕ → ℕ → ℕ → ℕ → ℕ → Span
+span offset index from to lower upper =
+    record { index = index; from = from; to = to; lower = lower; upper = upper; weight = 1; place = (offset, 11) }
+
+-- what a bank of these spans means at period 10
+abbrev pub bank-of : List Span → Meaning
+bank-of spans = record { period = 10; reach = highest span-events spans; relations = span-relations 10 spans }
 
 -- three events in a ring, period 10
 abbrev pub ring-spans : List Span
-ring-spans = span 1 1 2 3 5 ∷ span 2 2 3 3 5 ∷ span 3 3 1 1 2 ∷ []
+ring-spans = span 7 1 1 2 3 5 ∷ span 19 2 2 3 3 5 ∷ span 31 3 3 1 1 2 ∷ []
 
 abbrev pub ring : Meaning
-ring = record { period = 10; reach = 3; relations = span-relations 10 ring-spans }
+ring = bank-of ring-spans
 
 -- event 1 allowed minute 0 only: minutes 3, 4 and 5 are left of event 2, and 8 and 9 of event 3, and that is all that is left
 pub record Ring-Left : Type 0 where
@@ -31,10 +38,10 @@ pub record Ring-Left : Type 0 where
 
 -- event 3 one minute after event 2, which is one minute after event 1; the later span comes first
 abbrev pub chain-spans : List Span
-chain-spans = span 1 2 3 1 1 ∷ span 2 1 2 1 1 ∷ []
+chain-spans = span 7 1 2 3 1 1 ∷ span 19 2 1 2 1 1 ∷ []
 
 abbrev pub chain : Meaning
-chain = record { period = 10; reach = 3; relations = span-relations 10 chain-spans }
+chain = bank-of chain-spans
 
 -- one round of narrowing need not end in a stable family: with event 1 at minute 0 the first span takes nothing away before
 -- the second has cut event 2

@@ -1,13 +1,9 @@
-//! Worked examples of rests and of what lists of calls decide: proved from the definitions, and run as tests.
-ghost use Rattle.worked.specs.Examples.{Ring-Left, One-Round, In-A-Level, Emptied, Sixteen};
+//! Worked examples of conditions, rests, lists of calls and searches: proved from the definitions, and run as tests.
+ghost use Rattle.worked.specs.Worked.{Worked};
 
 // Worked examples, from the definitions.
 pub fn examples_stand() -> u8
-    ensures left { λ _. ⌜ Ring-Left ⌝ }
-    ensures round { λ _. ⌜ One-Round ⌝ }
-    ensures level { λ _. ⌜ In-A-Level ⌝ }
-    ensures emptied { λ _. ⌜ Emptied ⌝ }
-    ensures sixteen { λ _. ⌜ Sixteen ⌝ }
+    ensures { λ _. ⌜ Worked ⌝ }
 {
     0
 }

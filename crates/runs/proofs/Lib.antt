@@ -1,0 +1,5 @@
+pub mod Calling
+pub mod Running
+pub mod Finding
+pub mod Holding
+pub mod Replaying

@@ -1,0 +1,4 @@
+pub mod Requests
+pub mod Law
+pub mod Replayed
+pub mod Onward

@@ -1,0 +1,4 @@
+pub mod State
+pub mod Children
+pub mod Descending
+pub mod Turns

@@ -1,0 +1,4 @@
+pub mod Examples
+pub mod Reference
+pub mod Meets
+pub mod Searches

@@ -1,0 +1,3 @@
+pub mod Stubborn
+pub mod Trying
+pub mod Worked
