@@ -4,7 +4,7 @@ use mathlib.Core.List.{List, []}
 use mathlib.Core.Bool.{cond}
 use Prim.Native.Nat.{ℕ, _-_}
 use lib.Dec.{ltb}
-use lib.ListN.{take, getD}
+use lib.ListN.{length, take}
 use Rattle.std.specs.declared.option.Option.{Option}
 use Rattle.std.specs.declared.option.Option.the-variants.{Some, None}
 use Rattle.std.specs.declared.result.Result.{Result}
@@ -20,8 +20,9 @@ use Rattle.journeys.specs.Journeys.{journey-events, journey-relations}
 use Rattle.bank.specs.Calls.{meant}
 use Rattle.check.specs.Checked.{checked}
 use Rattle.rest.specs.Rest.{Left}
-use Rattle.calls.specs.Calls.{family, left-refusal}
+use Rattle.calls.specs.Calls.{family, left-refusal, unless-refused as unless}
 use Rattle.calls.specs.Replies.{Replies}
+use Rattle.settle.specs.Workspace.{cleared}
 use Rattle.reading.specs.Readings.{Reading}
 use Rattle.table_banks.specs.Verdicts.{spans-verdict, journeys-verdict}
 
@@ -51,18 +52,19 @@ if-tables-good r spans journeys answer =
 abbrev pub timetable-checked : Reading → List Span → List Journey → List ℕ → Result (Option ℕ) Refusal
 timetable-checked r spans journeys x = if-tables-good r spans journeys (checked (instance-meaning r spans journeys) x)
 
--- the minutes of an event that are left under the relations of the instance, with everything allowed
-abbrev pub Event-Left : Reading → List Span → List Journey → ℕ → ℕ → Result ℕ Refusal → Type 0
-Event-Left r spans journeys event workspace answer =
-    Replies (left-refusal (r .period) (r .events) (instance-meaning r spans journeys) event workspace)
-    (Left (instance-meaning r spans journeys) (family (r .period) (r .events) []) event) answer
+-- the minutes of an event that are left under the relations of the instance, with everything allowed; the workspace w, now w′,
+-- is cleared, or as it was where there is a refusal
+pub record Event-Left (r : Reading) (spans : List Span) (journeys : List Journey) (event : ℕ) (w w′ : List ℕ) (answer : Result ℕ Refusal) : Type 0 where
+  pub reply : Replies (left-refusal (r .period) (r .events) (instance-meaning r spans journeys) event (length w))
+      (Left (instance-meaning r spans journeys) (family (r .period) (r .events) []) event) answer
+  pub workspace : w′ ≡ unless (left-refusal (r .period) (r .events) (instance-meaning r spans journeys) event (length w)) (cleared w) w
 
 -- the same unless the tables are refused
-abbrev pub Left-Unless : Result (Unit {0}) Refusal → (Result ℕ Refusal → Type 0) → Result ℕ Refusal → Type 0
-Left-Unless (Ok u) P answer = P answer
-Left-Unless (Err f) P answer = answer ≡ Err f
+abbrev pub Left-Unless : Result (Unit {0}) Refusal → Type 0 → (w w′ : List ℕ) → Result ℕ Refusal → Type 0
+Left-Unless (Ok u) P w w′ answer = P
+Left-Unless (Err f) P w w′ answer = (answer ≡ Err f) × (w′ ≡ w)
 
-abbrev pub Minutes-Left : Reading → List Span → List Journey → ℕ → ℕ → Result ℕ Refusal → Type 0
-Minutes-Left r spans journeys event workspace =
+abbrev pub Minutes-Left : Reading → List Span → List Journey → ℕ → (w w′ : List ℕ) → Result ℕ Refusal → Type 0
+Minutes-Left r spans journeys event w w′ answer =
     Left-Unless (spans-verdict (r .period) (r .events) (r .spans) spans)
-    (Left-Unless (journeys-verdict (r .events) (r .journeys) journeys) (Event-Left r spans journeys event workspace))
+    (Left-Unless (journeys-verdict (r .events) (r .journeys) journeys) (Event-Left r spans journeys event w w′ answer) w w′ answer) w w′ answer

@@ -45,7 +45,7 @@ pub fn minutes_left(
     event: u16,
     workspace: &mut [u64],
 ) -> Result<u64, Refusal>
-    ensures { λ r. ⌜ Minutes-Left (closed (now (reading .entry))) (now (spans .entry)) (now (journeys .entry)) event (length (now (workspace .entry))) r ⌝ }
+    ensures { λ r. ⌜ Minutes-Left (closed (now (reading .entry))) (now (spans .entry)) (now (journeys .entry)) event (now (workspace .entry)) (now (workspace .exit)) r ⌝ }
 {
     let mut first = SpanBank::blank();
     first.fill(reading, spans)?;

@@ -1,29 +1,19 @@
 -- The search of an instance, from what its steps promise.
 use mathlib.Core.Path.{_≡_, refl, sym, ap, subst, _∙_}
-use mathlib.Core.List.{List, [], _++_}
+use mathlib.Core.List.{List, []}
 use mathlib.Core.Bool.{cond, _&&_}
-use Prim.Native.Nat.{ℕ, _≤_, max}
+use Prim.Native.Nat.{ℕ, _≤_}
 use native.Mathlib.Omega.{arith}
 use borrow.Author.Tests.{le-leb}
-use lib.ListN.{length, take}
-use Rattle.std.specs.declared.option.Option.{Option}
-use Rattle.std.specs.declared.option.Option.the-variants.{Some, None}
+use lib.ListN.{length}
 use Rattle.std.specs.declared.result.Result.{Result}
 use Rattle.std.specs.declared.result.Result.the-variants.{Ok, Err}
 use Rattle.refusals.specs.declared.Refusal.{Refusal}
 use Rattle.records.specs.declared.Span.{Span}
 use Rattle.records.specs.declared.Journey.{Journey}
 use Rattle.relations.specs.Meaning.{Meaning}
-use Rattle.relations.specs.Joins.{common}
-use Rattle.relations.specs.Tables.{highest}
-use Rattle.spans.specs.Spans.{span-events, span-relations}
-use Rattle.journeys.specs.Journeys.{journey-events, journey-relations}
-use Rattle.bank.specs.Calls.{meant}
 use Rattle.calls.specs.Calls.{family, find-refusal, unless-refused}
-use Rattle.calls.specs.Replies.{reply}
 use Rattle.settle.specs.Workspace.{cleared}
-use Rattle.plan.specs.declared.contents.Contents.{Contents}
-use Rattle.plan.specs.Decided.{Decided, Made}
 use Rattle.refusals.specs.declared.Refusal.the-variants.{Short}
 use Rattle.refusals.specs.declared.Fault.{Fault}
 use Rattle.reading.specs.Readings.{Reading, Progress, fault-at}
@@ -34,13 +24,6 @@ use Rattle.search.specs.Theorems.{problem}
 use Rattle.find.specs.Outcome.{Replied}
 use Rattle.solve.specs.Solved.{zeros, Searched, Searched-If, Search-Of, told, Solved-If, start}
 use Rattle.solve.specs.declared.Solution.{Solution}
-
--- the meaning of two banks whose periods and records are known
-pub joined-is : (T T₁ T₂ : ℕ) (ss ss′ : List Span) (js js′ : List Journey) → T₁ ≡ T → T₂ ≡ T → ss′ ≡ ss → js′ ≡ js →
-    meant (common T₁ T₂) (max (highest span-events ss′) (highest journey-events js′)) (span-relations T₁ ss′ ++ journey-relations T₂ js′)
-    ≡ meant (common T T) (max (highest span-events ss) (highest journey-events js)) (span-relations T ss ++ journey-relations T js)
-joined-is T T₁ T₂ ss ss′ js js′ a b s j =
-    λ i. meant (common (a i) (b i)) (max (highest span-events (s i)) (highest journey-events (j i))) (span-relations (a i) (s i) ++ journey-relations (b i) (j i))
 
 pub searched : (r : Reading) (spans : List Span) (journeys : List Journey) (old new w w′ : List ℕ) (answer : Result Answer Refusal)
     (T E : ℕ) (m : Meaning) → T ≡ r .period → E ≡ r .events → m ≡ instance-meaning r spans journeys →
@@ -56,15 +39,6 @@ searched r spans journeys old new w w′ answer T E m t e k =
 pub searched-if : (v : Result (Unit {0}) Refusal) (P : Type 0) (Q : Refusal → Type 0) → v ≡ Ok tt → P → Searched-If v P Q
 searched-if (Ok u) P Q e p = p
 searched-if (Err f) P Q e p = let z : _≡_ {A = ℕ} 0 1 = cc in absurd (omega arith)
-
--- a plan that was made has had no call
-pub made-none : (o : Option Refusal) (p q : Contents) → _≡_ {A = Result (Unit {0}) Refusal} (reply o tt) (Ok tt) → Made o p q → Decided q []
-made-none None p q e h = h
-made-none (Some f) p q e h = let z : _≡_ {A = ℕ} 0 1 = cc in absurd (omega arith)
-
-pub made-fresh : (o : Option Refusal) (q new old : Contents) → _≡_ {A = Result (Unit {0}) Refusal} (reply o tt) (Ok tt) → q ≡ unless-refused o new old → q ≡ new
-made-fresh None q new old e h = h
-made-fresh (Some f) q new old e h = let z : _≡_ {A = ℕ} 0 1 = cc in absurd (omega arith)
 
 module _ (s s′ : List Span) (j j′ : List Journey) (t t′ w w′ : List ℕ) where
   -- a text that was read, and searched

@@ -1,7 +1,8 @@
 use mathlib.Core.Path.{_≡_, sym, ap, _∙_}
 use mathlib.Core.List.{[]}
 use Rattle.reading.specs.Views.{closed}
-use Rattle.solve.proofs.Searching.{joined-is, searched, searched-if, made-none, made-fresh}
+use Rattle.instance.proofs.Leaving.{joined-is, made-none, made-fresh}
+use Rattle.solve.proofs.Searching.{searched, searched-if}
 use Rattle.solve.proofs.search_of.Needs as need
 
 pub returns : need.returns
