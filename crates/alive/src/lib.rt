@@ -1,4 +1,6 @@
 //! Turning a family into its rest, or finding that the rest has an empty set (internal).
+#![tactic(auto)]
+
 ghost use Rattle.std.specs.Prelude.{◌≡◌, ◌≤◌, length};
 ghost use Rattle.bank.specs.Calls.{meant};
 ghost use Rattle.rest.specs.Rest.{Suits};

@@ -1,4 +1,6 @@
 //! Banks of relations: the interface that a search stands on.
+#![tactic(auto)]
+
 ghost use Rattle.std.specs.Prelude.{◌≡◌, ℕ, ◌<◌, min, List, length};
 ghost use Rattle.relations.specs.Meaning.{Relation, Each, Deflates, Sound, Exact, Monotone, Silent, Confined};
 ghost use Rattle.bank.specs.Calls.{meant, in_limits, all_below, answer, Narrows};

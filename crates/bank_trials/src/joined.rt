@@ -3,7 +3,7 @@ use crate::dice::Dice;
 use crate::made;
 use crate::trial::{Tally, below, narrows_to};
 use bank::Bank;
-use check::check;
+use checks::check;
 use pair::Pair;
 use refusals::Refusal;
 use waiver::Waiver;

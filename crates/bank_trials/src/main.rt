@@ -1,4 +1,6 @@
 //! Tries the banks against plain enumeration, at several periods, and prints how many answers were compared.
+#![tactic(auto)]
+
 use crate::dice::Dice;
 use crate::trial::Tally;
 use bank::Bank;

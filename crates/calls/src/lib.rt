@@ -1,4 +1,6 @@
 //! The calls of a plan: what a list of them decides stands in specs/, and its laws here.
+#![tactic(auto)]
+
 ghost use Rattle.calls.specs.Laws.{LedgersRight, FamilyRight, ShutRestores, EitherOrder, AllowAgain};
 
 // What lists of calls decide, in words: `ledger` lists the allows that were accepted and that no later shut took back,

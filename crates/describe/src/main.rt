@@ -1,5 +1,7 @@
 //! Reads an instance from standard input and tells what it says, what breaks at all zeros, and which minutes are left; or why
 //! it is refused.
+#![tactic(auto)]
+
 use instance::{check_timetable, minutes_left, part_of, place_of};
 use reading::readings::ClosedReading;
 use records::{Journey, Span};

@@ -1,4 +1,6 @@
 //! The earliest timetable from a floor on.
+#![tactic(auto)]
+
 ghost use Rattle.std.specs.Prelude.{◌≡◌, ◌*◌, ◌≤◌, length};
 ghost use Rattle.bank.specs.Calls.{meant};
 ghost use Rattle.calls.specs.Calls.{find_refusal, unless_refused};

@@ -9,7 +9,7 @@ use Rattle.relations.specs.Tables.{highest}
 use Rattle.spans.specs.Spans.{span_events, span_relations}
 use Rattle.journeys.specs.Journeys.{journey_events, journey_relations}
 use Rattle.bank.specs.Calls.{meant}
-use Rattle.check.specs.Checked.{checked}
+use Rattle.checks.specs.Checked.{checked}
 use Rattle.rest.specs.Rest.{Left}
 use Rattle.calls.specs.Calls.{family, left_refusal, unless_refused as unless}
 use Rattle.calls.specs.Replies.{Replies}

@@ -1,11 +1,13 @@
 //! An instance that was read: its spans and journeys as one bank, and the lines behind its relations.
+#![tactic(auto)]
+
 ghost use Rattle.std.specs.Prelude.{◌≡◌, ◌<◌, ◌≤◌, length, Some, None, slice_index_or};
 ghost use Rattle.reading.specs.Views.{closed};
 ghost use Rattle.instance.specs.Joined.{timetable_checked, MinutesLeft};
 ghost use Rattle.instance.specs.Lines.{LinePlace, part_at};
 
 use bank::Bank;
-use check::check;
+use checks::check;
 use left::left;
 use pair::Pair;
 use plan::Plan;

@@ -1,6 +1,8 @@
 //! Journeys: what they mean, whether one holds, and their narrowing by least lengths.
 //!
 //! The functions are for the bank of journeys: each asks of its caller what that bank has tested.
+#![tactic(auto)]
+
 ghost use Rattle.std.specs.Prelude.{◌≡◌, ℕ, ◌<◌, ◌≤◌, true, false, map, length, ◌≢◌};
 ghost use Rattle.minutes.specs.Minutes.{at};
 ghost use Rattle.relations.specs.ExactNarrowing.{of};

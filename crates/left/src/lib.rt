@@ -1,4 +1,6 @@
 //! What is left of an event's minutes.
+#![tactic(auto)]
+
 ghost use Rattle.std.specs.Prelude.{◌≡◌, ◌+◌, ◌<◌, length};
 ghost use Rattle.bank.specs.Calls.{meant};
 ghost use Rattle.rest.specs.Rest.{left_in};

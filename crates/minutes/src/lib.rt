@@ -1,6 +1,8 @@
 //! Minute sets, families and timetables, and the leaf functions on minute sets.
 //!
 //! The functions are for the banks' own use: each asks of its caller a period of 64 at most.
+#![tactic(auto)]
+
 ghost use Rattle.std.specs.Prelude.{◌≡◌, ◌+◌, ◌-◌, ◌^◌, ◌<◌, ◌≤◌};
 ghost use Rattle.minutes.specs.Turns.{Turned, Widened};
 

@@ -1,4 +1,6 @@
 //! Two banks as one.
+#![tactic(auto)]
+
 ghost use Rattle.std.specs.Prelude.{max, ◌++◌};
 ghost use Rattle.relations.specs.Joins.{common};
 ghost use Rattle.relations.proofs.Joining.{joined_deflation, joined_soundness, joined_exactness, joined_monotony, joined_silence, joined_confinement};

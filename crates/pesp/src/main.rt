@@ -1,4 +1,6 @@
 //! Finds the earliest timetable of an instance that it reads from standard input.
+#![tactic(auto)]
+
 use records::{Journey, Span};
 use report::Refused;
 use search::Answer;

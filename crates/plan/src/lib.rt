@@ -1,11 +1,13 @@
 //! The plan: a period, events, the minutes that each may have, and levels that can be opened and shut again.
+#![tactic(auto)]
+
 ghost use Rattle.std.specs.Prelude.{ℕ, ◌^◌, ◌<◌, ◌≤◌};
 ghost use Rattle.minutes.specs.Minutes.{at};
 ghost use Rattle.plan.specs.Contents.{entry_at};
 
 use contents::Contents;
 
-pub mod calls;
+pub mod changes;
 mod contents;
 pub mod questions;
 

@@ -1,3 +1,5 @@
 //! Reading an instance: begin takes the heading, take one record line after another, and close ends it.
+#![tactic(auto)]
+
 pub mod readings;
 mod tally;

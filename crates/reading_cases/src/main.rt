@@ -1,5 +1,7 @@
 //! Reads many small texts and tells what becomes of each: one text to a line of standard input, behind its name and an
 //! equals sign, with \n, \r, \t and \h for the bytes 10, 13, 9 and 200.
+#![tactic(auto)]
+
 use reading::readings::ClosedReading;
 use records::{Journey, Span};
 use report::{Refused, Summary};

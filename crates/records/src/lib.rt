@@ -1,4 +1,5 @@
 //! What a record line says, as it is entered in a caller's table.
+#![tactic(auto)]
 
 // A span: event `to` follows event `from` by `lower` to `upper` minutes, round the period.
 #[derive(Clone, Copy, PartialEq, Eq, Debug)]

@@ -1,4 +1,6 @@
 //! The eight refusals of every call, and the fault that a refused line has.
+#![tactic(auto)]
+
 ghost use Rattle.std.specs.Prelude.{◌≡◌};
 ghost use Rattle.refusals.specs.Refusals.{number_of};
 

@@ -1,6 +1,8 @@
 //! Relations over timetables: their meaning and laws, exact narrowing, and meanings that are joined or waived in part.
 //!
 //! Each function here does nothing: its contract is the theorem that its name states.
+#![tactic(auto)]
+
 ghost use Rattle.relations.specs.ExactNarrowing.{ExactIsLawful, ExactInWords};
 ghost use Rattle.relations.specs.Joins.{JoinsAreLawful};
 ghost use Rattle.relations.specs.Conditions.{SpanIsPeriodic, WorkedExamples};

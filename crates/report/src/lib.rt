@@ -1,4 +1,6 @@
 //! What is told of a reading, in words.
+#![tactic(auto)]
+
 ghost use Rattle.report.specs.Lines.{refused_line};
 ghost use Rattle.std.specs.Prelude.{Some};
 

@@ -1,4 +1,6 @@
 //! Lists of calls on a new plan, and the law over them.
+#![tactic(auto)]
+
 pub mod replays;
 mod replies;
 pub mod requests;

@@ -1,4 +1,6 @@
 //! The search for the earliest timetable: what it answers, and what is true of its answers.
+#![tactic(auto)]
+
 ghost use Rattle.search.specs.Theorems.{SomeWay, AlwaysAnswers, OneAnswer, AnyWay, FloorCut, SameAnswers, Resuming, EarliestOrNoneHolds, TheNumberHolds};
 
 // What a find answers, each with its number: the count of dead ends that it passed.

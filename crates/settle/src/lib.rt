@@ -1,4 +1,6 @@
 //! Turning a family into its rest, and what else `left` and `find` share (all of it internal).
+#![tactic(auto)]
+
 ghost use Rattle.std.specs.Prelude.{◌≡◌, ◌≤◌, length, replicate};
 ghost use Rattle.bank.specs.Calls.{meant};
 ghost use Rattle.rest.specs.Rest.{Rest, Suits, has_empty};

@@ -1,4 +1,6 @@
 //! From the text of an instance to the answer of a search.
+#![tactic(auto)]
+
 ghost use Rattle.std.specs.Prelude.{◌≡◌, length};
 ghost use Rattle.reading.specs.Views.{closed};
 ghost use Rattle.solve.specs.Solved.{SearchOf, SolvedIf, start};

@@ -1,6 +1,8 @@
 //! Spans: what they mean, whether one holds, and their narrowing in word operations.
 //!
 //! The functions are for the bank of spans: each asks of its caller what that bank has tested.
+#![tactic(auto)]
+
 ghost use Rattle.std.specs.Prelude.{◌≡◌, ◌<◌, true, false, length, ◌≢◌};
 ghost use Rattle.relations.specs.ExactNarrowing.{of};
 ghost use Rattle.spans.specs.Spans.{span_relation, from_left, to_left, Bounds, Placed};

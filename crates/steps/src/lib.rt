@@ -1,4 +1,6 @@
 //! The steps of the search (all of it internal): the lists of minutes that it goes through, and the families that belong to them.
+#![tactic(auto)]
+
 ghost use Rattle.std.specs.Prelude.{◌≡◌, ℕ, ◌<◌, ◌≤◌, length, take, MatchOption};
 ghost use Rattle.minutes.specs.Minutes.{In, at};
 ghost use Rattle.search.specs.Search.{held};

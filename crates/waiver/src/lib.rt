@@ -1,4 +1,6 @@
 //! A bank of which some relations are waived.
+#![tactic(auto)]
+
 ghost use Rattle.std.specs.Prelude.{◌≡◌, ◌<◌, true, false, replicate, if◌then◌else◌, Ok, Err, nat_lt, slice_index_or, slice_set};
 ghost use Rattle.refusals.specs.declared.Refusal.TheVariants.{Range};
 ghost use Rattle.relations.specs.Joins.{waived_from};

@@ -1,4 +1,6 @@
 //! The search for the earliest timetable (internal: what calls it has tested plan, floor and bank).
+#![tactic(auto)]
+
 ghost use Rattle.std.specs.Prelude.{◌≡◌, ℕ, ◌+◌, ◌<◌, ◌≤◌, length, take};
 ghost use Rattle.minutes.specs.Minutes.{at, NoneEmpty};
 ghost use Rattle.bank.specs.Calls.{meant};

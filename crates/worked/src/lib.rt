@@ -1,4 +1,6 @@
 //! Worked examples of conditions, rests, lists of calls and searches: proved from the definitions, and run as tests.
+#![tactic(auto)]
+
 ghost use Rattle.worked.specs.Worked.{Worked};
 
 // Worked examples, from the definitions.

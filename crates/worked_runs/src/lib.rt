@@ -1,4 +1,6 @@
 //! A list of calls worked out by hand, so that the law over runs is seen to speak of something.
+#![tactic(auto)]
+
 ghost use Rattle.worked_runs.specs.Example.{WorkedRun};
 
 pub mod free;

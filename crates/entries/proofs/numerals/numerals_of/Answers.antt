@@ -24,12 +24,12 @@ loop-piece-preserved c =
 pub returns : goal.returns
 returns c =
     let inv = c.loop-piece.invariant in
-    let none = c.in-default.ensures.left.0 in
+    let none = c.in_default.ensures.left.0 in
     subst (λ ps. Noted c.args.first (map number (map trimmed ps)) c.loop-piece.numerals)
     (sym (append-nil inv.0) ∙ ap (λ ps. inv.0 ++ ps) (sym none) ∙ inv.1) inv.2
 
-pub overflow-add-field : goal.overflow-add-field
-overflow-add-field c =
+pub overflow_add-field : goal.overflow_add-field
+overflow_add-field c =
     omega (arith, c.requires.0, c.requires.1, c.loop-piece.invariant.3, noted_length c.args.first c.loop-piece.invariant.0 c.loop-piece.numerals c.loop-piece.invariant.2)
 
 pub note-requires : goal.note-requires

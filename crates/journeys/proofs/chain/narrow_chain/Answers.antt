@@ -10,7 +10,7 @@ pub returns : goal.returns
 returns c =
     let s = from_zeros c.args.period c.args.cap c.args.family.now c.args.chain.now c.gather.new.sets c.sweep.new.sets _ c.requires.most c.gather.ensures c.sweep.ensures in
     record {
-      after = put_narrowed c.args.period c.args.cap c.args.chain.now c.sweep.new.sets c.args.family.now c.put-back.new.family _ c.requires.cap c.requires.chain s c.put-back.ensures;
-      other = put_changed c.args.period c.args.cap c.args.chain.now c.sweep.new.sets c.args.family.now c.put-back.new.family _ c.requires.cap c.requires.chain s c.put-back.ensures;
-      same = put_same c.args.period c.args.cap c.args.chain.now c.sweep.new.sets c.args.family.now c.put-back.new.family _ c.requires.cap c.requires.chain s c.put-back.ensures;
+      after = put_narrowed c.args.period c.args.cap c.args.chain.now c.sweep.new.sets c.args.family.now c.put_back.new.family _ c.requires.cap c.requires.chain s c.put_back.ensures;
+      other = put_changed c.args.period c.args.cap c.args.chain.now c.sweep.new.sets c.args.family.now c.put_back.new.family _ c.requires.cap c.requires.chain s c.put_back.ensures;
+      same = put_same c.args.period c.args.cap c.args.chain.now c.sweep.new.sets c.args.family.now c.put_back.new.family _ c.requires.cap c.requires.chain s c.put_back.ensures;
     }

@@ -10,8 +10,8 @@ use Rattle.journeys.proofs.lengths.to_go_row.Goals as goal
 pub loop-i-init : goal.loop-i-init
 loop-i-init c = (
   from_none c.args.period _ _ (row_none _ 1000 (omega arith)),
-  c.least-from-best.ensures ∙ ap (λ p. least c.args.period (λ b. cond (has b c.args.set) (gap c.args.period p b + at c.args.next.now b) no_way)) (first_after c.args.period c.requires.some),
-  subst (λ z. z ≤ 1000) (sym c.least-from-best.ensures) (least_small c.args.period _),
+  c.least_from-best.ensures ∙ ap (λ p. least c.args.period (λ b. cond (has b c.args.set) (gap c.args.period p b + at c.args.next.now b) no_way)) (first_after c.args.period c.requires.some),
+  subst (λ z. z ≤ 1000) (sym c.least_from-best.ensures) (least_small c.args.period _),
 )
 
 pub loop-i-preserved : goal.loop-i-preserved
@@ -20,7 +20,7 @@ loop-i-preserved c =
     let i = c.loop-i.i in
     let G : ℕ → ℕ = λ a. least T (λ b. cond (has b c.args.set) (gap T a b + at c.args.next.now b) no_way) in
     let e = to_go_step T c.args.set i c.loop-i.best c.min-best.result (at c.args.next.now) (omega arith) (c.requires.small (T - 1 - i)) c.loop-i.invariant.1
-    (c.min-best.ensures ∙ ap (λ z. min (c.loop-i.best + 1) z) c.length-by.ensures) in (
+    (c.min-best.ensures ∙ ap (λ z. min (c.loop-i.best + 1) z) c.length_by.ensures) in (
       from_more T i G c.loop-i.row _ c.requires.most (omega arith) c.loop-i.invariant.0 e (subst (λ z. z ≤ 1000) (sym e) (least_small T _)),
       e ∙ sym (ap G (next_after T i (omega arith))),
       subst (λ z. z ≤ 1000) (sym e) (least_small T _),

@@ -12,7 +12,7 @@ use Rattle.plan.proofs.Shaping.{Facts, facts, shaped, shaped_allowing}
 use Rattle.plan.proofs.Going.{same_allow, onward_refused, allowed_is, allowed_on}
 use Rattle.plan.proofs.Refusing.{an_event, no_such, refused_range, refused_event, refused_full, accepted_allow}
 use Rattle.plan.proofs.Plan.allow.Goals as goal
-use Rattle.plan.proofs.Plan.allow.Goals.{then-event-eq0-via-then-event-eq0, then-event-eq0-via-else-event-eq0+then-event-self, then-is-entry+else-entries-ge1024, else-is-entry, Joined-is-entry}
+use Rattle.plan.proofs.Plan.allow.Goals.{then-event-eq0-via-then-event-eq0, then-event-eq0-via-else-event-eq0+then-event-self, then-is-entry+else-entries-ge1024, else-is-entry, Joined-is_entry}
 
 pub returns-then-set-whole : goal.returns-then-set-whole
 returns-then-set-whole c =
@@ -43,7 +43,7 @@ pub returns-then-entries-ge1024 : goal.returns-then-entries-ge1024
 returns-then-entries-ge1024 c =
     let p = c.args.self.now.contents in
     let entry : is_entry p.levels (at (sets_of p) (c.args.event - 1)) c.args.set ≡ true =
-    ap (λ v. is_entry p.levels v c.args.set) (sym (old_is p c.args.event c.if-event-eq0.false c.if-event-self.false)) ∙ sym c.is_entry.ensures ∙ c.if-is-entry.true in
+    ap (λ v. is_entry p.levels v c.args.set) (sym (old_is p c.args.event c.if-event-eq0.false c.if-event-self.false)) ∙ sym c.is_entry.ensures ∙ c.if-is_entry.true in
     let is : allow_refused p c.args.event c.args.set ≡ Some Full = refused_full p c.args.event c.args.set (omega (arith, c.if-set-whole.false, c.whole.ensures, pow_pos p.period))
     (an_event p.events c.args.event c.if-event-eq0.false c.if-event-self.false) entry c.if-entries-ge1024.true in
     record {
@@ -70,14 +70,14 @@ met_noted p q k s a b e = record {
 met_plain : (p q : Contents) (k s : ℕ) → is_entry p.levels (at p.allowed k) s ≡ false → q ≡ p → Met p q k s
 met_plain p q k s a e = record { entry = false; told = a; room = λ u. absurd (both_ways false refl u); is = e }
 
-met : (c : goal.Joined-is-entry) → Met c.args.self.now.contents c.if-is-entry.self.1.0 (c.args.event - 1) c.args.set
-met c = elim c.if-is-entry.branch [
-  | then-is-entry+else-entries-ge1024 w ↦ met_noted _ _ _ _ (sym c.is_entry.ensures ∙ w.if-is-entry.true) w.if-entries-ge1024.false (ap (λ z. z.1.0) w.self-is)
-  | else-is-entry w ↦ met_plain _ _ _ _ (sym c.is_entry.ensures ∙ w.if-is-entry.false) (ap (λ z. z.1.0) w.self-is)
+met : (c : goal.Joined-is_entry) → Met c.args.self.now.contents c.if-is_entry.self.1.0 (c.args.event - 1) c.args.set
+met c = elim c.if-is_entry.branch [
+  | then-is-entry+else-entries-ge1024 w ↦ met_noted _ _ _ _ (sym c.is_entry.ensures ∙ w.if-is_entry.true) w.if-entries-ge1024.false (ap (λ z. z.1.0) w.self-is)
+  | else-is-entry w ↦ met_plain _ _ _ _ (sym c.is_entry.ensures ∙ w.if-is_entry.false) (ap (λ z. z.1.0) w.self-is)
 ]
 
-pub invariant-of-self-2 : goal.invariant-of-self-2
-invariant-of-self-2 c =
+pub invariant_of-self-2 : goal.invariant_of-self-2
+invariant_of-self-2 c =
     let p = c.args.self.now.contents in
     let k = c.args.event - 1 in
     let m = met c in
@@ -88,8 +88,8 @@ returns c =
     let p = c.args.self.now.contents in
     let e = c.args.event in
     let s = c.args.set in
-    let m = met (goal.at.returns c).Joined-is-entry in
-    let q = c.if-is-entry.self.1.0 in
+    let m = met (goal.at.returns c).Joined-is_entry in
+    let q = c.if-is_entry.self.1.0 in
     let told : is_entry p.levels (at (sets_of p) (e - 1)) s ≡ m.entry = ap (λ v. is_entry p.levels v s) (sym (old_is p e c.if-event-eq0.false c.if-event-self.false)) ∙ m.told in
     let is : allow_refused p e s ≡ None = accepted_allow p e s (omega (arith, c.if-set-whole.false, c.whole.ensures, pow_pos p.period))
     (an_event p.events e c.if-event-eq0.false c.if-event-self.false) m.entry told m.room in

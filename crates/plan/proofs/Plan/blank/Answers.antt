@@ -3,5 +3,5 @@ use Rattle.plan.specs.Contents.{fresh}
 use Rattle.plan.proofs.Shaping.{facts, shaped_fresh}
 use Rattle.plan.proofs.Plan.blank.Goals as goal
 
-pub invariant-of-result : goal.invariant-of-result
-invariant-of-result c = facts (fresh 2 1) (shaped_fresh 2 1 (omega arith) (omega arith) (omega arith) (omega arith))
+pub invariant_of-result : goal.invariant_of-result
+invariant_of-result c = facts (fresh 2 1) (shaped_fresh 2 1 (omega arith) (omega arith) (omega arith) (omega arith))

@@ -8,8 +8,8 @@ use Rattle.plan.proofs.Holding.{holds_new}
 use Rattle.plan.proofs.Refusing.{accepted_make}
 use Rattle.plan.proofs.Plan.make.Goals as goal
 
-pub invariant-of-self : goal.invariant-of-self
-invariant-of-self c =
+pub invariant_of-self : goal.invariant_of-self
+invariant_of-self c =
     subst (λ v. Facts (fresh_of c.args.period c.args.events v)) (sym c.whole.ensures)
     (facts (fresh c.args.period c.args.events) (shaped_fresh c.args.period c.args.events c.if-period-lt2.false c.if-period-gt64.false c.if-events-lt1.false c.if-events-gt256.false))
 

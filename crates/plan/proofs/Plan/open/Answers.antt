@@ -20,8 +20,8 @@ returns-then-levels-ge16 c =
       list = λ cs d. onward_refused p open_level cs d (open_refusal p.levels) (same_open p cs d) Level is;
     }
 
-pub invariant-of-self : goal.invariant-of-self
-invariant-of-self c =
+pub invariant_of-self : goal.invariant_of-self
+invariant_of-self c =
     let p = c.args.self.now.contents in
     subst (λ n. Facts (opened_to n p)) (sym (add-one p.levels)) (facts (opening p) (shaped_opening p c.if-levels-ge16.false (shaped c.args.self.now)))
 

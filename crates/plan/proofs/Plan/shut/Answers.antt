@@ -20,16 +20,16 @@ returns-then-levels-eq0 c =
       list = λ cs d. onward_refused p shut_level cs d (shut_refusal p.levels) (same_shut p cs d) Level is;
     }
 
-pub invariant-of-self : goal.invariant-of-self
-invariant-of-self c =
+pub invariant_of-self : goal.invariant_of-self
+invariant_of-self c =
     let p = c.args.self.now.contents in
-    subst (λ z. Facts (with_levels (p.levels - 1) z)) (sym c.take-back.ensures) (facts (shutting p) (shaped_shutting p (shaped c.args.self.now)))
+    subst (λ z. Facts (with_levels (p.levels - 1) z)) (sym c.take_back.ensures) (facts (shutting p) (shaped_shutting p (shaped c.args.self.now)))
 
 pub returns : goal.returns
 returns c =
     let p = c.args.self.now.contents in
     let is : shut_refusal p.levels ≡ None = cond-false (eqb p.levels 0) _ _ (ne_eqb p.levels 0 c.if-levels-eq0.false) in
-    let q : with_levels (p.levels - 1) c.take-back.new.self ≡ shutting p = ap (with_levels (p.levels - 1)) c.take-back.ensures in
+    let q : with_levels (p.levels - 1) c.take_back.new.self ≡ shutting p = ap (with_levels (p.levels - 1)) c.take_back.ensures in
     let deep : 0 < p.levels = omega (arith, c.if-levels-eq0.false) in
     record {
       answer = ap (λ z. reply z tt) (sym is);

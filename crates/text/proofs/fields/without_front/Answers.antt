@@ -4,5 +4,5 @@ use Rattle.text.proofs.fields.without_front.Goals as goal
 
 pub returns : goal.returns
 returns c =
-    take_all _ _ (omega (arith, length-drop c.spaces-before-n.result c.args.bytes.now))
-    ∙ ap (λ n. drop n c.args.bytes.now) c.spaces-before-n.ensures.count
+    take_all _ _ (omega (arith, length-drop c.spaces_before-n.result c.args.bytes.now))
+    ∙ ap (λ n. drop n c.args.bytes.now) c.spaces_before-n.ensures.count

@@ -9,12 +9,12 @@ returns-then-not-marked g c =
     let m : Meaning = meant (g.B.Bank.period c.args.self.now.bank) (g.B.Bank.reach c.args.self.now.bank) (g.B.Bank.relations c.args.self.now.bank) in
     unmarked_holds c.args.self.now.marks.marked m c.args.k c.args.minutes.now _ (sym c.has-marked.ensures ∙ c.if-not-marked.true) c.holds.ensures
 
-pub returns-then-not-in-limits : goal.returns-then-not-in-limits
-returns-then-not-in-limits g c =
+pub returns-then-not-in_limits : goal.returns-then-not-in_limits
+returns-then-not-in_limits g c =
     let m : Meaning = meant (g.B.Bank.period c.args.self.now.bank) (g.B.Bank.reach c.args.self.now.bank) (g.B.Bank.relations c.args.self.now.bank) in
-    marked_outside c.args.self.now.marks.marked m c.args.k _ _ c.size.ensures c.reach-reach.ensures c.args.minutes.now (sym c.has-marked.ensures ∙ c.if-not-marked.false) (sym c.in_limits.ensures ∙ c.if-not-in-limits.true)
+    marked_outside c.args.self.now.marks.marked m c.args.k _ _ c.size.ensures c.reach-reach.ensures c.args.minutes.now (sym c.has-marked.ensures ∙ c.if-not-marked.false) (sym c.in_limits.ensures ∙ c.if-not-in_limits.true)
 
 pub returns : goal.returns
 returns g c =
     let m : Meaning = meant (g.B.Bank.period c.args.self.now.bank) (g.B.Bank.reach c.args.self.now.bank) (g.B.Bank.relations c.args.self.now.bank) in
-    marked_inside c.args.self.now.marks.marked m c.args.k _ _ _ c.size.ensures c.reach-reach.ensures c.period.ensures c.args.minutes.now _ (sym c.has-marked.ensures ∙ c.if-not-marked.false) (sym c.in_limits.ensures ∙ c.if-not-in-limits.false) c.all_below.ensures
+    marked_inside c.args.self.now.marks.marked m c.args.k _ _ _ c.size.ensures c.reach-reach.ensures c.period.ensures c.args.minutes.now _ (sym c.has-marked.ensures ∙ c.if-not-marked.false) (sym c.in_limits.ensures ∙ c.if-not-in_limits.false) c.all_below.ensures

@@ -5,16 +5,16 @@ use Rattle.bank.proofs.Tabling.{holds_outside, holds_late, holds_inside}
 use Rattle.table_banks.proofs.Placing.{journey_ranged, journey_placed, journey_below}
 use Rattle.table_banks.proofs.journey_bank.JourneyBankBank.holds.Goals as goal
 
-pub returns-then-not-in-limits : goal.returns-then-not-in-limits
-returns-then-not-in-limits c = holds_outside (journey_relation c.args.self.now.period) c.args.self.now.period (highest journey_events c.args.self.now.records.now) c.args.self.now.records.now c.args.k c.args.self.now.reach c.args.self.now.reaches c.args.minutes.now (sym c.in_limits.ensures ∙ c.if-not-in-limits.true)
+pub returns-then-not-in_limits : goal.returns-then-not-in_limits
+returns-then-not-in_limits c = holds_outside (journey_relation c.args.self.now.period) c.args.self.now.period (highest journey_events c.args.self.now.records.now) c.args.self.now.records.now c.args.k c.args.self.now.reach c.args.self.now.reaches c.args.minutes.now (sym c.in_limits.ensures ∙ c.if-not-in_limits.true)
 
-pub returns-then-not-all-below : goal.returns-then-not-all-below
-returns-then-not-all-below c = holds_late (journey_relation c.args.self.now.period) c.args.self.now.period (highest journey_events c.args.self.now.records.now) c.args.self.now.records.now c.args.k c.args.self.now.reach c.args.self.now.reaches c.args.minutes.now (sym c.in_limits.ensures ∙ c.if-not-in-limits.false) (sym c.all_below.ensures ∙ c.if-not-all-below.true)
+pub returns-then-not-all_below : goal.returns-then-not-all_below
+returns-then-not-all_below c = holds_late (journey_relation c.args.self.now.period) c.args.self.now.period (highest journey_events c.args.self.now.records.now) c.args.self.now.records.now c.args.k c.args.self.now.reach c.args.self.now.reaches c.args.minutes.now (sym c.in_limits.ensures ∙ c.if-not-in_limits.false) (sym c.all_below.ensures ∙ c.if-not-all_below.true)
 
-pub journey-holds-requires : goal.journey-holds-requires
-journey-holds-requires c =
-    let l = sym c.in_limits.ensures ∙ c.if-not-in-limits.false in
-    let a = sym c.all_below.ensures ∙ c.if-not-all-below.false in
+pub journey_holds-requires : goal.journey_holds-requires
+journey_holds-requires c =
+    let l = sym c.in_limits.ensures ∙ c.if-not-in_limits.false in
+    let a = sym c.all_below.ensures ∙ c.if-not-all_below.false in
     let r = journey_ranged c.args.self.now.records.now c.args.self.now.reach c.args.k (length c.args.minutes.now) _ c.args.self.now.reaches c.args.self.now.tested l in
     record {
       most = c.args.self.now.greatest;
@@ -24,4 +24,4 @@ journey-holds-requires c =
     }
 
 pub returns : goal.returns
-returns c = holds_inside (journey_relation c.args.self.now.period) c.args.self.now.period (highest journey_events c.args.self.now.records.now) c.args.self.now.records.now c.args.k c.args.self.now.reach c.args.self.now.reaches c.args.minutes.now _ _ (sym c.in_limits.ensures ∙ c.if-not-in-limits.false) (sym c.all_below.ensures ∙ c.if-not-all-below.false) c.journey-holds.ensures
+returns c = holds_inside (journey_relation c.args.self.now.period) c.args.self.now.period (highest journey_events c.args.self.now.records.now) c.args.self.now.records.now c.args.k c.args.self.now.reach c.args.self.now.reaches c.args.minutes.now _ _ (sym c.in_limits.ensures ∙ c.if-not-in_limits.false) (sym c.all_below.ensures ∙ c.if-not-all_below.false) c.journey_holds.ensures

@@ -5,12 +5,12 @@ use Rattle.bank.proofs.Tabling.{narrow_outside, narrow_inside}
 use Rattle.table_banks.proofs.Placing.{journey_ranged, journey_placed}
 use Rattle.table_banks.proofs.journey_bank.JourneyBankBank.narrow.Goals as goal
 
-pub returns-then-not-in-limits : goal.returns-then-not-in-limits
-returns-then-not-in-limits c = narrow_outside (journey_relation c.args.self.now.period) c.args.self.now.period (highest journey_events c.args.self.now.records.now) c.args.self.now.records.now c.args.k c.args.self.now.reach c.args.self.now.reaches c.args.family.now (sym c.in_limits.ensures ∙ c.if-not-in-limits.true)
+pub returns-then-not-in_limits : goal.returns-then-not-in_limits
+returns-then-not-in_limits c = narrow_outside (journey_relation c.args.self.now.period) c.args.self.now.period (highest journey_events c.args.self.now.records.now) c.args.self.now.records.now c.args.k c.args.self.now.reach c.args.self.now.reaches c.args.family.now (sym c.in_limits.ensures ∙ c.if-not-in_limits.true)
 
-pub journey-narrow-requires : goal.journey-narrow-requires
-journey-narrow-requires c =
-    let l = sym c.in_limits.ensures ∙ c.if-not-in-limits.false in
+pub journey_narrow-requires : goal.journey_narrow-requires
+journey_narrow-requires c =
+    let l = sym c.in_limits.ensures ∙ c.if-not-in_limits.false in
     let r = journey_ranged c.args.self.now.records.now c.args.self.now.reach c.args.k (length c.args.family.now) _ c.args.self.now.reaches c.args.self.now.tested l in
     record {
       some = omega (arith, c.args.self.now.least);
@@ -21,4 +21,4 @@ journey-narrow-requires c =
     }
 
 pub returns : goal.returns
-returns c = narrow_inside (journey_relation c.args.self.now.period) c.args.self.now.period (highest journey_events c.args.self.now.records.now) c.args.self.now.records.now c.args.k c.args.self.now.reach c.args.self.now.reaches c.args.family.now _ _ _ (sym c.in_limits.ensures ∙ c.if-not-in-limits.false) c.journey-narrow.ensures.after c.journey-narrow.ensures.other c.journey-narrow.ensures.same
+returns c = narrow_inside (journey_relation c.args.self.now.period) c.args.self.now.period (highest journey_events c.args.self.now.records.now) c.args.self.now.records.now c.args.k c.args.self.now.reach c.args.self.now.reaches c.args.family.now _ _ _ (sym c.in_limits.ensures ∙ c.if-not-in_limits.false) c.journey_narrow.ensures.after c.journey_narrow.ensures.other c.journey_narrow.ensures.same

@@ -1,7 +1,9 @@
 //! Whether a timetable meets every relation of a bank.
+#![tactic(auto)]
+
 ghost use Rattle.std.specs.Prelude.{◌≡◌, ℕ, ◌&&◌, take, Ok, Option, nat_le};
 ghost use Rattle.bank.specs.Calls.{meant};
-ghost use Rattle.check.specs.Checked.{checked, LowestFailing};
+ghost use Rattle.checks.specs.Checked.{checked, LowestFailing};
 
 use bank::{Bank, all_below};
 use refusals::Refusal;

@@ -1,7 +1,9 @@
 //! A bank that is one of two banks, of types that may differ.
+#![tactic(auto)]
+
 ghost use Rattle.relations.specs.Meaning.{Each, Deflates, Sound, Exact, Monotone, Silent, Confined};
 ghost use Rattle.bank.specs.Calls.{meant};
-ghost use Rattle.either.specs.Choice.{chosen, of_chosen};
+ghost use Rattle.either_bank.specs.Choice.{chosen, of_chosen};
 
 use bank::Bank;
 

@@ -7,7 +7,7 @@ use Rattle.bank.specs.Calls.{all_below, answer}
 use Rattle.bank.proofs.Answering.{limits_from, answer_inside}
 use Rattle.refusals.specs.declared.Refusal.{Refusal}
 use Rattle.refusals.specs.declared.Refusal.TheVariants.{Short, Range, Bank}
-use Rattle.check.specs.Checked.{lowest, fit, checked, LowestFailing}
+use Rattle.checks.specs.Checked.{lowest, fit, checked, LowestFailing}
 
 capped : (s c : ℕ) → leb (min s (suc c)) c ≡ leb s c
 capped s c = elim (cases_lt c s) [

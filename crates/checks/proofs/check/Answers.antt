@@ -1,8 +1,8 @@
 use Rattle.std.proofs.Common.{sym, refl, ◌∙◌, arith}
 use Rattle.relations.specs.Meaning.{Meaning}
 use Rattle.bank.specs.Calls.{meant}
-use Rattle.check.proofs.Checking.{refused_bank, refused_short, refused_range, answered, holds_is, size_is, lowest_stop, lowest_next, lowest_end, checked_found}
-use Rattle.check.proofs.check.Goals as goal
+use Rattle.checks.proofs.Checking.{refused_bank, refused_short, refused_range, answered, holds_is, size_is, lowest_stop, lowest_next, lowest_end, checked_found}
+use Rattle.checks.proofs.check.Goals as goal
 
 pub returns-then-not-is-fit : goal.returns-then-not-is-fit
 returns-then-not-is-fit g c =

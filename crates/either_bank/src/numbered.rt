@@ -1,6 +1,6 @@
 //! Banks by number, so that one list of calls may bring several.
 ghost use Rattle.std.specs.Prelude.{◌≡◌, ℕ, ◌/◌};
-ghost use Rattle.either.specs.Choice.{odd};
+ghost use Rattle.either_bank.specs.Choice.{odd};
 
 use crate::Either;
 use bank::Bank;
