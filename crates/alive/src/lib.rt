@@ -13,9 +13,9 @@ use settle::has_empty;
 // Relations take turns, in the order of their numbers and round again, until each of them in a row has left the family as it
 // is; or until a set is empty after a round, since what is left of it stays empty.
 pub fn settle_alive<B: Bank>(bank: &B, family: &mut [u64]) -> bool
-    requires suits { Suits (meant (period bank.now) (reach bank.now) (relations bank.now)) family.old }
-    requires size { length (relations bank.now) ≤ 512 }
-    ensures { Settles (meant (period bank.now) (reach bank.now) (relations bank.now)) family.old family.new result }
+    requires suits { Suits (meant (B.period bank.now) (B.reach bank.now) (B.relations bank.now)) family.old }
+    requires size { length (B.relations bank.now) ≤ 512 }
+    ensures { Settles (meant (B.period bank.now) (B.reach bank.now) (B.relations bank.now)) family.old family.new result }
 {
     let size = bank.size();
     let mut k = 0;

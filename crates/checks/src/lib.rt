@@ -18,8 +18,8 @@ fn is_fit(size: usize, period: u8, reach: usize) -> bool
 // The lowest relation that does not hold of the first `reach` minutes; none where each holds.
 // Refuses Bank, then Short where there are fewer minutes, then Range where one of them is not below the period.
 pub fn check<B: Bank>(bank: &B, minutes: &[u8]) -> Result<Option<usize>, Refusal>
-    ensures answer { result ≡ checked (meant (period bank.now) (reach bank.now) (relations bank.now)) minutes.now }
-    ensures found { (o : Option ℕ) → result ≡ Ok o → LowestFailing (meant (period bank.now) (reach bank.now) (relations bank.now)) (take (reach bank.now) minutes.now) o }
+    ensures answer { result ≡ checked (meant (B.period bank.now) (B.reach bank.now) (B.relations bank.now)) minutes.now }
+    ensures found { (o : Option ℕ) → result ≡ Ok o → LowestFailing (meant (B.period bank.now) (B.reach bank.now) (B.relations bank.now)) (take (B.reach bank.now) minutes.now) o }
 {
     let size = bank.size();
     let period = bank.period();

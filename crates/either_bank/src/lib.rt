@@ -19,23 +19,23 @@ pub struct Either<A, B> {
 }
 
 impl<A: Bank, B: Bank> Bank for Either<A, B> {
-    ghost period = { λ s. (chosen s.second_counts (meant (A.Bank.period s.first) (A.Bank.reach s.first) (A.Bank.relations s.first)) (meant (B.Bank.period s.second) (B.Bank.reach s.second) (B.Bank.relations s.second))).period };
+    ghost period = { λ s. (chosen s.second_counts (meant (A.period s.first) (A.reach s.first) (A.relations s.first)) (meant (B.period s.second) (B.reach s.second) (B.relations s.second))).period };
 
-    ghost reach = { λ s. (chosen s.second_counts (meant (A.Bank.period s.first) (A.Bank.reach s.first) (A.Bank.relations s.first)) (meant (B.Bank.period s.second) (B.Bank.reach s.second) (B.Bank.relations s.second))).reach };
+    ghost reach = { λ s. (chosen s.second_counts (meant (A.period s.first) (A.reach s.first) (A.relations s.first)) (meant (B.period s.second) (B.reach s.second) (B.relations s.second))).reach };
 
-    ghost relations = { λ s. (chosen s.second_counts (meant (A.Bank.period s.first) (A.Bank.reach s.first) (A.Bank.relations s.first)) (meant (B.Bank.period s.second) (B.Bank.reach s.second) (B.Bank.relations s.second))).relations };
+    ghost relations = { λ s. (chosen s.second_counts (meant (A.period s.first) (A.reach s.first) (A.relations s.first)) (meant (B.period s.second) (B.reach s.second) (B.relations s.second))).relations };
 
-    ghost deflation = { λ s. of_chosen (λ m. Each (Deflates m.reach) m) s.second_counts _ _ (A.Bank.deflation s.first) (B.Bank.deflation s.second) };
+    ghost deflation = { λ s. of_chosen (λ m. Each (Deflates m.reach) m) s.second_counts _ _ (A.deflation s.first) (B.deflation s.second) };
 
-    ghost soundness = { λ s. of_chosen (λ m. Each (Sound m.period m.reach) m) s.second_counts _ _ (A.Bank.soundness s.first) (B.Bank.soundness s.second) };
+    ghost soundness = { λ s. of_chosen (λ m. Each (Sound m.period m.reach) m) s.second_counts _ _ (A.soundness s.first) (B.soundness s.second) };
 
-    ghost exactness = { λ s. of_chosen (λ m. Each (Exact m.period m.reach) m) s.second_counts _ _ (A.Bank.exactness s.first) (B.Bank.exactness s.second) };
+    ghost exactness = { λ s. of_chosen (λ m. Each (Exact m.period m.reach) m) s.second_counts _ _ (A.exactness s.first) (B.exactness s.second) };
 
-    ghost monotony = { λ s. of_chosen (λ m. Each (Monotone m.reach) m) s.second_counts _ _ (A.Bank.monotony s.first) (B.Bank.monotony s.second) };
+    ghost monotony = { λ s. of_chosen (λ m. Each (Monotone m.reach) m) s.second_counts _ _ (A.monotony s.first) (B.monotony s.second) };
 
-    ghost silence = { λ s. of_chosen (λ m. Each (Silent m.reach) m) s.second_counts _ _ (A.Bank.silence s.first) (B.Bank.silence s.second) };
+    ghost silence = { λ s. of_chosen (λ m. Each (Silent m.reach) m) s.second_counts _ _ (A.silence s.first) (B.silence s.second) };
 
-    ghost confinement = { λ s. of_chosen (λ m. Each (Confined m.reach) m) s.second_counts _ _ (A.Bank.confinement s.first) (B.Bank.confinement s.second) };
+    ghost confinement = { λ s. of_chosen (λ m. Each (Confined m.reach) m) s.second_counts _ _ (A.confinement s.first) (B.confinement s.second) };
 
     fn period(&self) -> u8 {
         if self.second_counts {

@@ -21,23 +21,23 @@ pub struct One<B> {
 }
 
 impl<B: Bank> Bank for One<B> {
-    ghost period = { λ s. B.Bank.period s.bank };
+    ghost period = { λ s. B.period s.bank };
 
-    ghost reach = { λ s. B.Bank.reach s.bank };
+    ghost reach = { λ s. B.reach s.bank };
 
-    ghost relations = { λ s. B.Bank.relations s.bank };
+    ghost relations = { λ s. B.relations s.bank };
 
-    ghost deflation = { λ s. B.Bank.deflation s.bank };
+    ghost deflation = { λ s. B.deflation s.bank };
 
-    ghost soundness = { λ s. B.Bank.soundness s.bank };
+    ghost soundness = { λ s. B.soundness s.bank };
 
-    ghost exactness = { λ s. B.Bank.exactness s.bank };
+    ghost exactness = { λ s. B.exactness s.bank };
 
-    ghost monotony = { λ s. B.Bank.monotony s.bank };
+    ghost monotony = { λ s. B.monotony s.bank };
 
-    ghost silence = { λ s. B.Bank.silence s.bank };
+    ghost silence = { λ s. B.silence s.bank };
 
-    ghost confinement = { λ s. B.Bank.confinement s.bank };
+    ghost confinement = { λ s. B.confinement s.bank };
 
     fn period(&self) -> u8 {
         self.bank.period()
@@ -70,7 +70,7 @@ impl<B: Bank + Copy> Banks for One<B> {
 
 // The even numbers are those of the first, the odd ones those of the second, each by half the number.
 impl<A: Banks, B: Banks> Banks for Either<A, B> {
-    ghost numbered = { λ s n. record { first = A.Banks.numbered s.first (n / 2); second = B.Banks.numbered s.second (n / 2); second_counts = odd n } };
+    ghost numbered = { λ s n. record { first = A.numbered s.first (n / 2); second = B.numbered s.second (n / 2); second_counts = odd n } };
 
     fn numbered(&self, n: usize) -> Either<A, B> {
         Either {

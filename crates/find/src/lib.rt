@@ -28,11 +28,11 @@ fn seek<B: Bank>(
     timetable: &mut [u8],
     workspace: &mut [u64],
 ) -> Answer
-    requires posed { WellPosed (problem (meant (period bank.now) (reach bank.now) (relations bank.now)) allowed.now) }
-    requires floor { FloorOf (problem (meant (period bank.now) (reach bank.now) (relations bank.now)) allowed.now) floor.now }
+    requires posed { WellPosed (problem (meant (B.period bank.now) (B.reach bank.now) (B.relations bank.now)) allowed.now) }
+    requires floor { FloorOf (problem (meant (B.period bank.now) (B.reach bank.now) (B.relations bank.now)) allowed.now) floor.now }
     requires timetable { length allowed.now ≤ length timetable.old }
     requires workspace { 4 * length allowed.now ≤ length workspace.old }
-    ensures { Outcome (problem (meant (period bank.now) (reach bank.now) (relations bank.now)) allowed.now) floor.now budget timetable.old timetable.new result }
+    ensures { Outcome (problem (meant (B.period bank.now) (B.reach bank.now) (B.relations bank.now)) allowed.now) floor.now budget timetable.old timetable.new result }
 {
     let events = allowed.len();
     let mut edge_places = [0u8; 256];
@@ -68,9 +68,9 @@ pub fn find<B: Bank>(
     timetable: &mut [u8],
     workspace: &mut [u64],
 ) -> Result<Answer, Refusal>
-    ensures answer { Replied (find_refusal plan.now.contents.period plan.now.contents.events (meant (period bank.now) (reach bank.now) (relations bank.now)) floor.now (length timetable.old) (length workspace.old)) (problem (meant (period bank.now) (reach bank.now) (relations bank.now)) (sets_of plan.now.contents)) floor.now budget timetable.old timetable.new result }
-    ensures workspace { workspace.new ≡ unless_refused (find_refusal plan.now.contents.period plan.now.contents.events (meant (period bank.now) (reach bank.now) (relations bank.now)) floor.now (length timetable.old) (length workspace.old)) (cleared workspace.old) workspace.old }
-    ensures list { GoesOn plan.now.contents (meant (period bank.now) (reach bank.now) (relations bank.now)) floor.now budget timetable.old timetable.new (length workspace.old) result }
+    ensures answer { Replied (find_refusal plan.now.contents.period plan.now.contents.events (meant (B.period bank.now) (B.reach bank.now) (B.relations bank.now)) floor.now (length timetable.old) (length workspace.old)) (problem (meant (B.period bank.now) (B.reach bank.now) (B.relations bank.now)) (sets_of plan.now.contents)) floor.now budget timetable.old timetable.new result }
+    ensures workspace { workspace.new ≡ unless_refused (find_refusal plan.now.contents.period plan.now.contents.events (meant (B.period bank.now) (B.reach bank.now) (B.relations bank.now)) floor.now (length timetable.old) (length workspace.old)) (cleared workspace.old) workspace.old }
+    ensures list { GoesOn plan.now.contents (meant (B.period bank.now) (B.reach bank.now) (B.relations bank.now)) floor.now budget timetable.old timetable.new (length workspace.old) result }
 {
     let allowed = plan.family();
     let events = allowed.len();

@@ -28,7 +28,7 @@ pub fn left<B: Bank>(
     event: u16,
     workspace: &mut [u64],
 ) -> Result<u64, Refusal>
-    ensures { Leaves plan.now.contents (meant (period bank.now) (reach bank.now) (relations bank.now)) event workspace.old workspace.new result }
+    ensures { Leaves plan.now.contents (meant (B.period bank.now) (B.reach bank.now) (B.relations bank.now)) event workspace.old workspace.new result }
 {
     if workspace.len() < 4096 {
         return Err(Refusal::Short);

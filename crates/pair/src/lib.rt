@@ -15,23 +15,23 @@ pub struct Pair<A, B> {
 }
 
 impl<A: Bank, B: Bank> Bank for Pair<A, B> {
-    ghost period = { λ s. common (A.Bank.period s.first) (B.Bank.period s.second) };
+    ghost period = { λ s. common (A.period s.first) (B.period s.second) };
 
-    ghost reach = { λ s. max (A.Bank.reach s.first) (B.Bank.reach s.second) };
+    ghost reach = { λ s. max (A.reach s.first) (B.reach s.second) };
 
-    ghost relations = { λ s. A.Bank.relations s.first ++ B.Bank.relations s.second };
+    ghost relations = { λ s. A.relations s.first ++ B.relations s.second };
 
-    ghost deflation = { λ s. joined_deflation (A.Bank.relations s.first) (B.Bank.relations s.second) (A.Bank.deflation s.first) (B.Bank.deflation s.second) };
+    ghost deflation = { λ s. joined_deflation (A.relations s.first) (B.relations s.second) (A.deflation s.first) (B.deflation s.second) };
 
-    ghost soundness = { λ s. joined_soundness (A.Bank.relations s.first) (B.Bank.relations s.second) (A.Bank.soundness s.first) (B.Bank.soundness s.second) };
+    ghost soundness = { λ s. joined_soundness (A.relations s.first) (B.relations s.second) (A.soundness s.first) (B.soundness s.second) };
 
-    ghost exactness = { λ s. joined_exactness (A.Bank.relations s.first) (B.Bank.relations s.second) (A.Bank.exactness s.first) (B.Bank.exactness s.second) };
+    ghost exactness = { λ s. joined_exactness (A.relations s.first) (B.relations s.second) (A.exactness s.first) (B.exactness s.second) };
 
-    ghost monotony = { λ s. joined_monotony (A.Bank.relations s.first) (B.Bank.relations s.second) (A.Bank.monotony s.first) (B.Bank.monotony s.second) };
+    ghost monotony = { λ s. joined_monotony (A.relations s.first) (B.relations s.second) (A.monotony s.first) (B.monotony s.second) };
 
-    ghost silence = { λ s. joined_silence (A.Bank.relations s.first) (B.Bank.relations s.second) (A.Bank.deflation s.first) (B.Bank.deflation s.second) (A.Bank.silence s.first) (B.Bank.silence s.second) };
+    ghost silence = { λ s. joined_silence (A.relations s.first) (B.relations s.second) (A.deflation s.first) (B.deflation s.second) (A.silence s.first) (B.silence s.second) };
 
-    ghost confinement = { λ s. joined_confinement (A.Bank.relations s.first) (B.Bank.relations s.second) (A.Bank.confinement s.first) (B.Bank.confinement s.second) };
+    ghost confinement = { λ s. joined_confinement (A.relations s.first) (B.relations s.second) (A.confinement s.first) (B.confinement s.second) };
 
     fn period(&self) -> u8 {
         let period = self.first.period();

@@ -115,11 +115,3 @@ shaped_shutting p h = record {
   cuts = h.cuts;
   marks = h.marks;
 }
-
--- the shape, as a plan wants it
-abbrev pub Facts : Contents → Type 0
-Facts p = (2 ≤ p.period) × ((p.period ≤ 64) × ((1 ≤ p.events) × ((p.events ≤ 256) × ((p.levels ≤ 16) × ((p.entries ≤ 1024)
-    × (((i : ℕ) → at p.allowed i < 2 ^ p.period) × (((i : ℕ) → (entry_at p.trail i).set < 2 ^ p.period) × (((i : ℕ) → at p.marks i ≤ 1024) × Unit {0}))))))))
-
-pub facts : (p : Contents) → Shaped p → Facts p
-facts p h = (h.least, (h.most, (h.some, (h.events, (h.levels, (h.entries, (h.sets, (h.cuts, (h.marks, tt)))))))))

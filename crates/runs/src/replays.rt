@@ -25,7 +25,7 @@ fn make_call<B: Bank>(
     workspace: &mut [u64],
 ) -> Reply
     requires { length timetable.old ≡ plan.old.contents.events }
-    ensures on { GoesOn plan.old.contents (call_of (λ b. meant (period b) (reach b) (relations b)) plan.old.contents.events (length workspace.old) request.now) plan.new.contents timetable.old timetable.new result }
+    ensures on { GoesOn plan.old.contents (call_of (λ b. meant (B.period b) (B.reach b) (B.relations b)) plan.old.contents.events (length workspace.old) request.now) plan.new.contents timetable.old timetable.new result }
     ensures workspace { Lent workspace.old workspace.new }
 {
     match request.action {
@@ -55,7 +55,7 @@ fn run<B: Bank>(
     requires new { Decided plan.old.contents [] }
     requires replies { length requests.now ≤ length replies.old }
     requires timetables { length requests.now * plan.old.contents.events ≤ length timetables.old }
-    ensures right { RightReplies plan.old.contents.period plan.old.contents.events (calls_of (λ b. meant (period b) (reach b) (relations b)) plan.old.contents.events (length workspace.old) requests.now) replies.new timetables.old timetables.new }
+    ensures right { RightReplies plan.old.contents.period plan.old.contents.events (calls_of (λ b. meant (B.period b) (B.reach b) (B.relations b)) plan.old.contents.events (length workspace.old) requests.now) replies.new timetables.old timetables.new }
     ensures others { drop (length requests.now) replies.new ≡ drop (length requests.now) replies.old }
     ensures workspace { Lent workspace.old workspace.new }
 {
@@ -95,7 +95,7 @@ pub fn replay<B: Bank>(
     workspace: &mut [u64],
 ) -> Result<(), Refusal>
     ensures answer { result ≡ reply (replay_refusal period events (length requests.now) (length replies.old) (length timetables.old)) tt }
-    ensures run { Replayed (replay_refusal period events (length requests.now) (length replies.old) (length timetables.old)) period events (calls_of (λ b. meant (B.Bank.period b) (reach b) (relations b)) events (length workspace.old) requests.now) replies.old replies.new timetables.old timetables.new workspace.old workspace.new }
+    ensures run { Replayed (replay_refusal period events (length requests.now) (length replies.old) (length timetables.old)) period events (calls_of (λ b. meant (B.period b) (B.reach b) (B.relations b)) events (length workspace.old) requests.now) replies.old replies.new timetables.old timetables.new workspace.old workspace.new }
 {
     let mut plan = Plan::blank();
     if let Err(refusal) = plan.make(period, events) {

@@ -11,9 +11,9 @@ use bank::Bank;
 // Turns a family into its rest (internal: what calls it has tested the bank). Relations take turns, in the order of their
 // numbers and round again, until each of them in a row has left the family as it is.
 pub fn settle<B: Bank>(bank: &B, family: &mut [u64])
-    requires suits { Suits (meant (period bank.now) (reach bank.now) (relations bank.now)) family.old }
-    requires size { length (relations bank.now) ≤ 512 }
-    ensures { Rest (meant (period bank.now) (reach bank.now) (relations bank.now)) family.old family.new }
+    requires suits { Suits (meant (B.period bank.now) (B.reach bank.now) (B.relations bank.now)) family.old }
+    requires size { length (B.relations bank.now) ≤ 512 }
+    ensures { Rest (meant (B.period bank.now) (B.reach bank.now) (B.relations bank.now)) family.old family.new }
 {
     let size = bank.size();
     let mut k = 0;
@@ -34,7 +34,7 @@ pub fn settle<B: Bank>(bank: &B, family: &mut [u64])
 // Whether a plan of this period and so many events cannot take the bank.
 pub fn unfit<B: Bank>(bank: &B, plan_period: u8, events: u16) -> bool
     requires { events ≤ 256 }
-    ensures { result ≡ bank_unfit plan_period events (meant (period bank.now) (reach bank.now) (relations bank.now)) }
+    ensures { result ≡ bank_unfit plan_period events (meant (B.period bank.now) (B.reach bank.now) (B.relations bank.now)) }
 {
     bank.size() > 512 || bank.period() != plan_period || bank.reach() > events as usize
 }

@@ -123,7 +123,7 @@ pub(crate) fn test_table<R: Tested>(
     period: u8,
     most: u16,
 ) -> Result<(), Refusal>
-    ensures { result ≡ table_verdict (ranged period) (λ e. good_events most (events e)) count table.now }
+    ensures { result ≡ table_verdict (R.ranged period) (λ e. good_events most (R.events e)) count table.now }
 {
     if table.len() < count {
         return Err(Refusal::Short);
@@ -138,7 +138,7 @@ pub(crate) fn test_table<R: Tested>(
 
 // The highest event that one of the records names, or 0.
 pub(crate) fn highest_event<R: Tested>(records: &[R]) -> u16
-    ensures { result ≡ highest events records.now }
+    ensures { result ≡ highest R.events records.now }
 {
     let mut most: u16 = 0;
     for i in 0..records.len() {

@@ -72,23 +72,23 @@ impl<B> Waiver<B> {
 }
 
 impl<B: Bank> Bank for Waiver<B> {
-    ghost period = { λ s. B.Bank.period s.bank };
+    ghost period = { λ s. B.period s.bank };
 
-    ghost reach = { λ s. B.Bank.reach s.bank };
+    ghost reach = { λ s. B.reach s.bank };
 
-    ghost relations = { λ s. waived_from s.marks.marked 0 (B.Bank.relations s.bank) };
+    ghost relations = { λ s. waived_from s.marks.marked 0 (B.relations s.bank) };
 
-    ghost deflation = { λ s. waived_deflation s.marks.marked (B.Bank.relations s.bank) (B.Bank.deflation s.bank) };
+    ghost deflation = { λ s. waived_deflation s.marks.marked (B.relations s.bank) (B.deflation s.bank) };
 
-    ghost soundness = { λ s. waived_soundness s.marks.marked (B.Bank.relations s.bank) (B.Bank.soundness s.bank) };
+    ghost soundness = { λ s. waived_soundness s.marks.marked (B.relations s.bank) (B.soundness s.bank) };
 
-    ghost exactness = { λ s. waived_exactness s.marks.marked (B.Bank.relations s.bank) (B.Bank.exactness s.bank) };
+    ghost exactness = { λ s. waived_exactness s.marks.marked (B.relations s.bank) (B.exactness s.bank) };
 
-    ghost monotony = { λ s. waived_monotony s.marks.marked (B.Bank.relations s.bank) (B.Bank.monotony s.bank) };
+    ghost monotony = { λ s. waived_monotony s.marks.marked (B.relations s.bank) (B.monotony s.bank) };
 
-    ghost silence = { λ s. waived_silence s.marks.marked (B.Bank.relations s.bank) (B.Bank.silence s.bank) };
+    ghost silence = { λ s. waived_silence s.marks.marked (B.relations s.bank) (B.silence s.bank) };
 
-    ghost confinement = { λ s. waived_confinement s.marks.marked (B.Bank.relations s.bank) (B.Bank.confinement s.bank) };
+    ghost confinement = { λ s. waived_confinement s.marks.marked (B.relations s.bank) (B.confinement s.bank) };
 
     fn period(&self) -> u8 {
         self.bank.period()

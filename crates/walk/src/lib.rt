@@ -18,12 +18,12 @@ use steps::{hold, lower, lowest, raise};
 
 // Goes back where `rest` is stale: it becomes the rest of the first `d` minutes, narrowed from the rest of the allowed family.
 fn refresh<B: Bank>(bank: &B, stale: bool, root: &[u64], minutes: &[u8], d: usize, rest: &mut [u64])
-    requires size { length (relations bank.now) ≤ 512 }
-    requires suits { Suits (meant (period bank.now) (reach bank.now) (relations bank.now)) root.now }
+    requires size { length (B.relations bank.now) ≤ 512 }
+    requires suits { Suits (meant (B.period bank.now) (B.reach bank.now) (B.relations bank.now)) root.now }
     requires rest { length rest.old ≡ length root.now }
     requires minutes { length minutes.now ≡ length root.now }
     requires below { (i : ℕ) → i < d → at minutes.now i < 64 }
-    ensures { Refreshed (meant (period bank.now) (reach bank.now) (relations bank.now)) (held (take d minutes.now) root.now) rest.old rest.new stale }
+    ensures { Refreshed (meant (B.period bank.now) (B.reach bank.now) (B.relations bank.now)) (held (take d minutes.now) root.now) rest.old rest.new stale }
 {
     if stale {
         hold(root, minutes, d, rest);
@@ -40,13 +40,13 @@ fn narrow_child<B: Bank>(
     d: usize,
     child: &mut [u64],
 ) -> bool
-    requires size { length (relations bank.now) ≤ 512 }
-    requires suits { Suits (meant (period bank.now) (reach bank.now) (relations bank.now)) rest.now }
+    requires size { length (B.relations bank.now) ≤ 512 }
+    requires suits { Suits (meant (B.period bank.now) (B.reach bank.now) (B.relations bank.now)) rest.now }
     requires child { length child.old ≡ length rest.now }
     requires minutes { length minutes.now ≡ length rest.now }
     requires deep { d < length rest.now }
     requires below { (i : ℕ) → i ≤ d → at minutes.now i < 64 }
-    ensures { Settles (meant (period bank.now) (reach bank.now) (relations bank.now)) (held (take (d + 1) minutes.now) rest.now) child.new result }
+    ensures { Settles (meant (B.period bank.now) (B.reach bank.now) (B.relations bank.now)) (held (take (d + 1) minutes.now) rest.now) child.new result }
 {
     hold(rest, minutes, d + 1, child);
     settle_alive(bank, child)
@@ -55,14 +55,14 @@ fn narrow_child<B: Bank>(
 // Goes down: from the rest of the first `d` minutes to that of one more, by way of `child`, and says whether no set of it is
 // empty; where one is, `rest` stays. An event that has only that minute left needs no narrowing.
 fn descend<B: Bank>(bank: &B, minutes: &[u8], d: usize, rest: &mut [u64], child: &mut [u64]) -> bool
-    requires size { length (relations bank.now) ≤ 512 }
-    requires suits { Suits (meant (period bank.now) (reach bank.now) (relations bank.now)) rest.old }
+    requires size { length (B.relations bank.now) ≤ 512 }
+    requires suits { Suits (meant (B.period bank.now) (B.reach bank.now) (B.relations bank.now)) rest.old }
     requires full { NoneEmpty rest.old }
     requires deep { d < length rest.old }
     requires child { length child.old ≡ length rest.old }
     requires minutes { length minutes.now ≡ length rest.old }
     requires below { (i : ℕ) → i ≤ d → at minutes.now i < 64 }
-    ensures { Descended (meant (period bank.now) (reach bank.now) (relations bank.now)) (take (d + 1) minutes.now) rest.old rest.new result }
+    ensures { Descended (meant (B.period bank.now) (B.reach bank.now) (B.relations bank.now)) (take (d + 1) minutes.now) rest.old rest.new result }
 {
     if rest[d] == 1u64 << minutes[d] {
         return true;
@@ -89,15 +89,15 @@ pub fn walk<B: Bank>(
     child: &mut [u64],
     sets: &mut [u64],
 ) -> Answer
-    requires posed { WellPosed (problem (meant (period bank.now) (reach bank.now) (relations bank.now)) allowed.now) }
-    requires floor { FloorOf (problem (meant (period bank.now) (reach bank.now) (relations bank.now)) allowed.now) edge.old }
+    requires posed { WellPosed (problem (meant (B.period bank.now) (B.reach bank.now) (B.relations bank.now)) allowed.now) }
+    requires floor { FloorOf (problem (meant (B.period bank.now) (B.reach bank.now) (B.relations bank.now)) allowed.now) edge.old }
     requires edge { length edge.old ≡ length allowed.now }
     requires onward { onward.old ≡ edge.old }
     requires root { length root.old ≡ length allowed.now }
     requires rest { length rest.old ≡ length allowed.now }
     requires child { length child.old ≡ length allowed.now }
     requires sets { length sets.old ≡ length allowed.now }
-    ensures { (way : Way (problem (meant (period bank.now) (reach bank.now) (relations bank.now)) allowed.now)) → Finds (problem (meant (period bank.now) (reach bank.now) (relations bank.now)) allowed.now) way edge.old budget result (to_write result edge.new onward.new) }
+    ensures { (way : Way (problem (meant (B.period bank.now) (B.reach bank.now) (B.relations bank.now)) allowed.now)) → Finds (problem (meant (B.period bank.now) (B.reach bank.now) (B.relations bank.now)) allowed.now) way edge.old budget result (to_write result edge.new onward.new) }
 {
     let period = bank.period();
     root.copy_from_slice(allowed);

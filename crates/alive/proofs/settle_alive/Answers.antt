@@ -45,12 +45,12 @@ loop-quiet-preserved g c = turned (meant (g.B.Bank.period c.args.bank.now) (g.B.
     (omega (arith, c.size-size.ensures, c.requires.size)) (omega (arith, c.size-size.ensures, c.requires.size)) c.requires.suits c.loop-quiet.invariant c.loop-quiet-test.true c.narrow.result c.narrow.ensures c.if-narrow.quiet (c.loop-quiet.k + 1)
     (elim c.if-narrow.branch [ then-narrow w ↦ heard _ _ _ w.if-narrow.true w.quiet-is | else-narrow w ↦ unheard _ _ _ w.if-narrow.false w.quiet-is ]) (up (omega (arith, c.loop-quiet.invariant.inside)))
 
-pub returns-then-has-empty : goal.returns-then-has-empty
-returns-then-has-empty g c = stops_dead _ _ _ (turned (meant (g.B.Bank.period c.args.bank.now) (g.B.Bank.reach c.args.bank.now) (g.B.Bank.relations c.args.bank.now))
+pub returns-then-has_empty : goal.returns-then-has_empty
+returns-then-has_empty g c = stops_dead _ _ _ (turned (meant (g.B.Bank.period c.args.bank.now) (g.B.Bank.reach c.args.bank.now) (g.B.Bank.relations c.args.bank.now))
     (lawful _ _ _ (g.B.Bank.deflation c.args.bank.now) (g.B.Bank.soundness c.args.bank.now) (g.B.Bank.exactness c.args.bank.now) (g.B.Bank.monotony c.args.bank.now) (g.B.Bank.silence c.args.bank.now) (g.B.Bank.confinement c.args.bank.now))
     c.size-size.result c.args.family.now c.loop-quiet.family c.narrow.new.family c.loop-quiet.k c.loop-quiet.quiet
     (omega (arith, c.size-size.ensures, c.requires.size)) (omega (arith, c.size-size.ensures, c.requires.size)) c.requires.suits c.loop-quiet.invariant c.loop-quiet-test.true c.narrow.result c.narrow.ensures c.if-narrow.quiet 0
-    (elim c.if-narrow.branch [ then-narrow w ↦ heard _ _ _ w.if-narrow.true w.quiet-is | else-narrow w ↦ unheard _ _ _ w.if-narrow.false w.quiet-is ]) (subst (λ z. Next z c.loop-quiet.k 0) c.if-k-size.true (round (omega arith)))).came _ c.has_empty.ensures c.if-has-empty.true
+    (elim c.if-narrow.branch [ then-narrow w ↦ heard _ _ _ w.if-narrow.true w.quiet-is | else-narrow w ↦ unheard _ _ _ w.if-narrow.false w.quiet-is ]) (subst (λ z. Next z c.loop-quiet.k 0) c.if-k-size.true (round (omega arith)))).came _ c.has_empty.ensures c.if-has_empty.true
 
 pub returns : goal.returns
-returns g c = ends _ _ _ c.loop-quiet.invariant.came (all_quiet _ _ _ _ _ _ (omega (arith, c.size-size.ensures, c.requires.size)) c.loop-quiet-test.false c.loop-quiet.invariant) _ c.has-empty-2.ensures
+returns g c = ends _ _ _ c.loop-quiet.invariant.came (all_quiet _ _ _ _ _ _ (omega (arith, c.size-size.ensures, c.requires.size)) c.loop-quiet-test.false c.loop-quiet.invariant) _ c.has_empty-2.ensures

@@ -8,11 +8,11 @@ use Rattle.calls.specs.Calls.{allow, is_entry, unless_refused}
 use Rattle.calls.specs.Replies.{reply}
 use Rattle.plan.specs.declared.contents.Contents.{Contents}
 use Rattle.plan.specs.Contents.{sets_of, allow_refused, put, noted, allowing}
-use Rattle.plan.proofs.Shaping.{Facts, facts, shaped, shaped_allowing}
+use Rattle.plan.proofs.Shaping.{Shaped, shaped, shaped_allowing}
 use Rattle.plan.proofs.Going.{same_allow, onward_refused, allowed_is, allowed_on}
 use Rattle.plan.proofs.Refusing.{an_event, no_such, refused_range, refused_event, refused_full, accepted_allow}
 use Rattle.plan.proofs.Plan.allow.Goals as goal
-use Rattle.plan.proofs.Plan.allow.Goals.{then-event-eq0-via-then-event-eq0, then-event-eq0-via-else-event-eq0+then-event-self, then-is-entry+else-entries-ge1024, else-is-entry, Joined-is_entry}
+use Rattle.plan.proofs.Plan.allow.Goals.{then-event-eq0-via-then-event-eq0, then-event-eq0-via-else-event-eq0+then-event-self, then-is_entry+else-entries-ge1024, else-is_entry, Joined-is_entry}
 
 pub returns-then-set-whole : goal.returns-then-set-whole
 returns-then-set-whole c =
@@ -72,8 +72,8 @@ met_plain p q k s a e = record { entry = false; told = a; room = λ u. absurd (b
 
 met : (c : goal.Joined-is_entry) → Met c.args.self.now.contents c.if-is_entry.self.1.0 (c.args.event - 1) c.args.set
 met c = elim c.if-is_entry.branch [
-  | then-is-entry+else-entries-ge1024 w ↦ met_noted _ _ _ _ (sym c.is_entry.ensures ∙ w.if-is_entry.true) w.if-entries-ge1024.false (ap (λ z. z.1.0) w.self-is)
-  | else-is-entry w ↦ met_plain _ _ _ _ (sym c.is_entry.ensures ∙ w.if-is_entry.false) (ap (λ z. z.1.0) w.self-is)
+  | then-is_entry+else-entries-ge1024 w ↦ met_noted _ _ _ _ (sym c.is_entry.ensures ∙ w.if-is_entry.true) w.if-entries-ge1024.false (ap (λ z. z.1.0) w.self-is)
+  | else-is_entry w ↦ met_plain _ _ _ _ (sym c.is_entry.ensures ∙ w.if-is_entry.false) (ap (λ z. z.1.0) w.self-is)
 ]
 
 pub invariant_of-self-2 : goal.invariant_of-self-2
@@ -81,7 +81,9 @@ invariant_of-self-2 c =
     let p = c.args.self.now.contents in
     let k = c.args.event - 1 in
     let m = met c in
-    subst (λ z. Facts (put k (bit_and (at p.allowed k) c.args.set) z)) (sym m.is) (facts _ (shaped_allowing p k c.args.set m.entry m.room (shaped c.args.self.now)))
+    let h : Shaped (put k (bit_and (at p.allowed k) c.args.set) c.if-is_entry.self.1.0) =
+    subst (λ z. Shaped (put k (bit_and (at p.allowed k) c.args.set) z)) (sym m.is) (shaped_allowing p k c.args.set m.entry m.room (shaped c.args.self.now)) in
+    record { least = h.least; most = h.most; some = h.some; events = h.events; levels = h.levels; entries = h.entries; sets = h.sets; cuts = h.cuts; marks = h.marks }
 
 pub returns : goal.returns
 returns c =

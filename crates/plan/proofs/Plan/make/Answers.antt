@@ -3,15 +3,17 @@ use Rattle.calls.specs.Calls.{unless_refused}
 use Rattle.calls.specs.Replies.{reply}
 use Rattle.plan.specs.Contents.{fresh, fresh_of, make_refusal}
 use Rattle.plan.specs.Decided.{Made}
-use Rattle.plan.proofs.Shaping.{Facts, facts, shaped_fresh}
+use Rattle.plan.proofs.Shaping.{Shaped, shaped_fresh}
 use Rattle.plan.proofs.Holding.{holds_new}
 use Rattle.plan.proofs.Refusing.{accepted_make}
 use Rattle.plan.proofs.Plan.make.Goals as goal
 
 pub invariant_of-self : goal.invariant_of-self
 invariant_of-self c =
-    subst (λ v. Facts (fresh_of c.args.period c.args.events v)) (sym c.whole.ensures)
-    (facts (fresh c.args.period c.args.events) (shaped_fresh c.args.period c.args.events c.if-period-lt2.false c.if-period-gt64.false c.if-events-lt1.false c.if-events-gt256.false))
+    let h : Shaped (fresh_of c.args.period c.args.events c.whole.result) =
+    subst (λ v. Shaped (fresh_of c.args.period c.args.events v)) (sym c.whole.ensures)
+    (shaped_fresh c.args.period c.args.events c.if-period-lt2.false c.if-period-gt64.false c.if-events-lt1.false c.if-events-gt256.false) in
+    record { least = h.least; most = h.most; some = h.some; events = h.events; levels = h.levels; entries = h.entries; sets = h.sets; cuts = h.cuts; marks = h.marks }
 
 pub returns : goal.returns
 returns c =

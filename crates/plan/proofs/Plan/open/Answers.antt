@@ -5,7 +5,7 @@ use Rattle.calls.specs.Calls.{open_level, open_refusal, unless_refused}
 use Rattle.calls.specs.Replies.{reply}
 use Rattle.plan.specs.Contents.{opening, opened_to}
 use Rattle.plan.specs.Decided.{Onward}
-use Rattle.plan.proofs.Shaping.{Facts, facts, shaped, shaped_opening}
+use Rattle.plan.proofs.Shaping.{Shaped, shaped, shaped_opening}
 use Rattle.plan.proofs.Holding.{holds_open}
 use Rattle.plan.proofs.Going.{same_open, onward_refused, onward_done}
 use Rattle.plan.proofs.Plan.open.Goals as goal
@@ -23,7 +23,9 @@ returns-then-levels-ge16 c =
 pub invariant_of-self : goal.invariant_of-self
 invariant_of-self c =
     let p = c.args.self.now.contents in
-    subst (λ n. Facts (opened_to n p)) (sym (add-one p.levels)) (facts (opening p) (shaped_opening p c.if-levels-ge16.false (shaped c.args.self.now)))
+    let h : Shaped (opened_to (p.levels + 1) p) =
+    subst (λ n. Shaped (opened_to n p)) (sym (add-one p.levels)) (shaped_opening p c.if-levels-ge16.false (shaped c.args.self.now)) in
+    record { least = h.least; most = h.most; some = h.some; events = h.events; levels = h.levels; entries = h.entries; sets = h.sets; cuts = h.cuts; marks = h.marks }
 
 pub returns : goal.returns
 returns c =

@@ -5,7 +5,7 @@ use Rattle.calls.specs.Calls.{shut_level, shut_refusal, unless_refused}
 use Rattle.calls.specs.Replies.{reply}
 use Rattle.plan.specs.Contents.{shutting, with_levels}
 use Rattle.plan.specs.Decided.{Onward}
-use Rattle.plan.proofs.Shaping.{Facts, facts, shaped, shaped_shutting}
+use Rattle.plan.proofs.Shaping.{Shaped, shaped, shaped_shutting}
 use Rattle.plan.proofs.Holding.{holds_shut}
 use Rattle.plan.proofs.Going.{same_shut, onward_refused, onward_done}
 use Rattle.plan.proofs.Plan.shut.Goals as goal
@@ -23,7 +23,9 @@ returns-then-levels-eq0 c =
 pub invariant_of-self : goal.invariant_of-self
 invariant_of-self c =
     let p = c.args.self.now.contents in
-    subst (λ z. Facts (with_levels (p.levels - 1) z)) (sym c.take_back.ensures) (facts (shutting p) (shaped_shutting p (shaped c.args.self.now)))
+    let h : Shaped (with_levels (p.levels - 1) c.take_back.new.self) =
+    subst (λ z. Shaped (with_levels (p.levels - 1) z)) (sym c.take_back.ensures) (shaped_shutting p (shaped c.args.self.now)) in
+    record { least = h.least; most = h.most; some = h.some; events = h.events; levels = h.levels; entries = h.entries; sets = h.sets; cuts = h.cuts; marks = h.marks }
 
 pub returns : goal.returns
 returns c =

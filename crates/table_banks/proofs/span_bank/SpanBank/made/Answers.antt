@@ -10,4 +10,4 @@ invariant_of-self c =
     let s = table_sound (span_in_range c.args.period) span_events c.args.events c.args.count c.args.table.now (sym c.test_table.ensures ∙ c.in_default.is) in
     let m = sound_more (span_in_range c.args.period) span_events c.args.events 256 (take c.args.count c.args.table.now) c.requires.most s in
     let q : c.args.count ≡ c.args.count - 0 = omega arith in
-    (c.requires.least, (c.requires.greatest, (subst (λ n. sound (span_in_range c.args.period) span_events 256 (take n c.args.table.now) ≡ true) q m, (c.highest_event-reach.ensures, tt))))
+    record { least = c.requires.least; greatest = c.requires.greatest; tested = subst (λ n. sound (span_in_range c.args.period) span_events 256 (take n c.args.table.now) ≡ true) q m; reaches = c.highest_event-reach.ensures }
