@@ -30,8 +30,8 @@ returns-then-floor-events g c =
     let a = refused x (problem m (sets_of p)) floor c.args.budget old old Short is in
     record { answer = a; workspace = ap (λ z. unless_refused z (cleared w) w) (sym is); list = goes_on p m floor c.args.budget old old (length w) _ a }
 
-pub returns-then-not-all-below : goal.returns-then-not-all-below
-returns-then-not-all-below g c =
+pub returns-then-not-all_below : goal.returns-then-not-all_below
+returns-then-not-all_below g c =
     let p = c.args.plan.now.contents in
     let m = meant (g.B.Bank.period c.args.bank.now) (g.B.Bank.reach c.args.bank.now) (g.B.Bank.relations c.args.bank.now) in
     let floor = c.args.floor.now in
@@ -40,7 +40,7 @@ returns-then-not-all-below g c =
     let x = find_refusal p.period p.events m floor (length old) (length w) in
     let E : length c.family-allowed.result.now ≡ p.events = c.family-allowed.ensures.len in
     let n : length c.family-allowed.result.now - 0 ≡ p.events = omega (arith, E) in
-    let below : all_below p.period (take p.events floor) ≡ false = sym (λ i. all_below (c.period.ensures i) (take (n i) floor)) ∙ sym c.all_below.ensures ∙ c.if-not-all-below.true in
+    let below : all_below p.period (take p.events floor) ≡ false = sym (λ i. all_below (c.period.ensures i) (take (n i) floor)) ∙ sym c.all_below.ensures ∙ c.if-not-all_below.true in
     let is : x ≡ Some Range = refused_range p.period p.events m floor (length old) (length w) (omega (arith, E, c.if-floor-events.false)) (omega (arith, E, c.if-timetable-events.false)) c.if-workspace-lt4096.false below in
     let a = refused x (problem m (sets_of p)) floor c.args.budget old old Range is in
     record { answer = a; workspace = ap (λ z. unless_refused z (cleared w) w) (sym is); list = goes_on p m floor c.args.budget old old (length w) _ a }
@@ -55,7 +55,7 @@ returns-then-unfit g c =
     let x = find_refusal p.period p.events m floor (length old) (length w) in
     let E : length c.family-allowed.result.now ≡ p.events = c.family-allowed.ensures.len in
     let n : length c.family-allowed.result.now - 0 ≡ p.events = omega (arith, E) in
-    let below : all_below p.period (take p.events floor) ≡ true = sym (λ i. all_below (c.period.ensures i) (take (n i) floor)) ∙ sym c.all_below.ensures ∙ c.if-not-all-below.false in
+    let below : all_below p.period (take p.events floor) ≡ true = sym (λ i. all_below (c.period.ensures i) (take (n i) floor)) ∙ sym c.all_below.ensures ∙ c.if-not-all_below.false in
     let u : true ≡ bank_unfit p.period p.events m = sym c.if-unfit.true ∙ c.unfit.ensures ∙ (λ i. bank_unfit (c.period-2.ensures i) (c.events.ensures i) m) in
     let is : x ≡ Some Bank = by_bank p.period p.events m floor (length old) (length w) (omega (arith, E, c.if-floor-events.false)) (omega (arith, E, c.if-timetable-events.false)) c.if-workspace-lt4096.false below true u in
     let a = refused x (problem m (sets_of p)) floor c.args.budget old old Bank is in
@@ -68,7 +68,7 @@ seek-answer-requires g c =
     let floor = c.args.floor.now in
     let E : length c.family-allowed.result.now ≡ p.events = c.family-allowed.ensures.len in
     let n : length c.family-allowed.result.now - 0 ≡ p.events = omega (arith, E) in
-    let below : all_below p.period (take p.events floor) ≡ true = sym (λ i. all_below (c.period.ensures i) (take (n i) floor)) ∙ sym c.all_below.ensures ∙ c.if-not-all-below.false in
+    let below : all_below p.period (take p.events floor) ≡ true = sym (λ i. all_below (c.period.ensures i) (take (n i) floor)) ∙ sym c.all_below.ensures ∙ c.if-not-all_below.false in
     let u : false ≡ bank_unfit p.period p.events m = sym c.if-unfit.false ∙ c.unfit.ensures ∙ (λ i. bank_unfit (c.period-2.ensures i) (c.events.ensures i) m) in
     let sets : c.family-allowed.result.now ≡ sets_of p = c.family-allowed.ensures.sets in
     let len : length (sets_of p) ≡ p.events = sym (ap length sets) ∙ E in
@@ -91,7 +91,7 @@ returns g c =
     let x = find_refusal p.period p.events m floor (length old) (length w) in
     let E : length c.family-allowed.result.now ≡ p.events = c.family-allowed.ensures.len in
     let n : length c.family-allowed.result.now - 0 ≡ p.events = omega (arith, E) in
-    let below : all_below p.period (take p.events floor) ≡ true = sym (λ i. all_below (c.period.ensures i) (take (n i) floor)) ∙ sym c.all_below.ensures ∙ c.if-not-all-below.false in
+    let below : all_below p.period (take p.events floor) ≡ true = sym (λ i. all_below (c.period.ensures i) (take (n i) floor)) ∙ sym c.all_below.ensures ∙ c.if-not-all_below.false in
     let u : false ≡ bank_unfit p.period p.events m = sym c.if-unfit.false ∙ c.unfit.ensures ∙ (λ i. bank_unfit (c.period-2.ensures i) (c.events.ensures i) m) in
     let is : x ≡ None = by_bank p.period p.events m floor (length old) (length w) (omega (arith, E, c.if-floor-events.false)) (omega (arith, E, c.if-timetable-events.false)) c.if-workspace-lt4096.false below false u in
     let new = c.seek-answer.new.timetable in

@@ -6,9 +6,9 @@ use Rattle.instance.proofs.minutes_left.Goals as goal
 pub returns : goal.returns
 returns c =
     let r = closed c.args.reading.now in
-    let first = c.in-ok-fill.was in
-    let second = c.in-ok-fill-2.was in
-    let third = c.in-ok-make.was in
+    let first = c.in_ok-fill.was in
+    let second = c.in_ok-fill-2.was in
+    let third = c.in_ok-make.was in
     let decided = made_none _ _ _ (sym c.make.ensures.answer ∙ third) c.make.ensures.list in
     let fresh = made_fresh _ _ _ _ (sym c.make.ensures.answer ∙ third) c.make.ensures.plan in
     left_if _ _ _ _ _ (sym c.fill.ensures.answer ∙ first) (left_if _ _ _ _ _ (sym c.fill-2.ensures.answer ∙ second)

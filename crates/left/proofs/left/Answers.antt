@@ -41,23 +41,23 @@ returns-then-unfit g c =
     let a = refused _ (Left m (sets_of p) c.args.event) Bank is in
     record { answer = a; workspace = ap (λ z. unless_refused z (cleared w) w) (sym is); list = goes_on p m c.args.event (length w) _ a }
 
-pub slice-bounds-family-end : goal.slice-bounds-family-end
-slice-bounds-family-end g c = omega (arith, c.family-allowed.ensures.len, c.args.plan.now.events, c.if-workspace-lt4096.false)
+pub slice_bounds-family-end : goal.slice_bounds-family-end
+slice_bounds-family-end g c = omega (arith, c.family-allowed.ensures.len, c.args.plan.now.events, c.if-workspace-lt4096.false)
 
 pub settle-requires : goal.settle-requires
 settle-requires g c =
     let p = c.args.plan.now.contents in
     let m = meant (g.B.Bank.period c.args.bank.now) (g.B.Bank.reach c.args.bank.now) (g.B.Bank.relations c.args.bank.now) in
     let u : bank_unfit p.period p.events m ≡ false = sym (λ i. bank_unfit (c.period.ensures i) (c.events-2.ensures i) m) ∙ sym c.unfit.ensures ∙ c.if-unfit.false in
-    let f : c.copy-from-slice.new.self ≡ sets_of p = c.copy-from-slice.ensures.after ∙ c.family-allowed.ensures.sets in
+    let f : c.copy_from_slice.new.self ≡ sets_of p = c.copy_from_slice.ensures.after ∙ c.family-allowed.ensures.sets in
     record {
       suits = subst (Suits m) (sym f) (sets_suit p m u c.args.plan.now.most c.args.plan.now.events (sym (ap length c.family-allowed.ensures.sets) ∙ c.family-allowed.ensures.len) c.args.plan.now.sets);
       size = fits_size p.period p.events m u;
     }
 
-pub left-in-answer-requires : goal.left-in-answer-requires
-left-in-answer-requires g c =
-    omega (arith, c.settle.ensures.inside.len, ap length c.copy-from-slice.ensures.after, c.family-allowed.ensures.len, c.if-event-events.false, c.events.ensures, c.if-event-eq0.false)
+pub left_in-answer-requires : goal.left_in-answer-requires
+left_in-answer-requires g c =
+    omega (arith, c.settle.ensures.inside.len, ap length c.copy_from_slice.ensures.after, c.family-allowed.ensures.len, c.if-event-events.false, c.events.ensures, c.if-event-eq0.false)
 
 pub returns : goal.returns
 returns g c =
@@ -68,13 +68,13 @@ returns g c =
     let u : false ≡ bank_unfit p.period p.events m = sym c.if-unfit.false ∙ c.unfit.ensures ∙ (λ i. bank_unfit (c.period.ensures i) (c.events-2.ensures i) m) in
     let is : left_refusal p.period p.events m e (length w) ≡ None = by_bank p.period p.events m e (length w) c.if-workspace-lt4096.false
     (an_event p.events e c.if-event-eq0.false (omega (arith, c.if-event-events.false, c.events.ensures))) false u in
-    let f : c.copy-from-slice.new.self ≡ sets_of p = c.copy-from-slice.ensures.after ∙ c.family-allowed.ensures.sets in
+    let f : c.copy_from_slice.new.self ≡ sets_of p = c.copy_from_slice.ensures.after ∙ c.family-allowed.ensures.sets in
     let rest : Rest m (sets_of p) c.settle.new.family = subst (λ z. Rest m z c.settle.new.family) f c.settle.ensures in
     let place : e - 1 + 1 ≡ e = omega (arith, c.if-event-eq0.false) in
-    let found : Left m (sets_of p) e c.left-in-answer.result = record { rest = c.settle.new.family; is_rest = rest; set = c.left-in-answer.ensures ∙ ap (left_in c.settle.new.family) place } in
-    let a = answered _ (Left m (sets_of p) e) c.left-in-answer.result is found in
+    let found : Left m (sets_of p) e c.left_in-answer.result = record { rest = c.settle.new.family; is_rest = rest; set = c.left_in-answer.ensures ∙ ap (left_in c.settle.new.family) place } in
+    let a = answered _ (Left m (sets_of p) e) c.left_in-answer.result is found in
     let n = length c.family-allowed.result.now - 0 in
-    let size : length c.settle.new.family ≡ n = c.settle.ensures.inside.len ∙ ap length c.copy-from-slice.ensures.after ∙ (let z : length c.family-allowed.result.now ≡ n = omega arith in z) in
+    let size : length c.settle.new.family ≡ n = c.settle.ensures.inside.len ∙ ap length c.copy_from_slice.ensures.after ∙ (let z : length c.family-allowed.result.now ≡ n = omega arith in z) in
     let some : n ≤ 4096 = omega (arith, c.family-allowed.ensures.len, c.args.plan.now.events) in
     let before = c.settle.new.family ++ drop n w in
     let whole : length (take 4096 before) ≡ 4096 = omega (arith, length-take 4096 before, length-append c.settle.new.family (drop n w), length-drop n w, c.if-workspace-lt4096.false) in

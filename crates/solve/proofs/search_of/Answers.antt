@@ -7,9 +7,9 @@ use Rattle.solve.proofs.search_of.Goals as goal
 pub returns : goal.returns
 returns c =
     let r = closed c.args.reading.now in
-    let first = c.in-ok-fill.was in
-    let second = c.in-ok-fill-2.was in
-    let third = c.in-ok-make.was in
+    let first = c.in_ok-fill.was in
+    let second = c.in_ok-fill-2.was in
+    let third = c.in_ok-make.was in
     let decided = made_none _ _ _ (sym c.make.ensures.answer ∙ third) c.make.ensures.list in
     let fresh = made_fresh _ _ _ _ (sym c.make.ensures.answer ∙ third) c.make.ensures.plan in
     searched_if _ _ _ (sym c.fill.ensures.answer ∙ first) (searched_if _ _ _ (sym c.fill-2.ensures.answer ∙ second)

@@ -3,17 +3,17 @@ use Rattle.std.proofs.lemmas.List.{length-set}
 use Rattle.walk.proofs.Turns.{turn_start, end_at_once, root_suits, root_length, rest_suits, rest_length, rest_full, end_none, up_less, turn_up, down_less, down_low, turn_down, end_found, end_spent, dead_less, turn_dead_back, turn_dead, dead_less_here}
 use Rattle.walk.proofs.walk.Goals as goal
 
-pub returns-then-has-empty : goal.returns-then-has-empty
-returns-then-has-empty g c = end_at_once _ c.requires.posed _ _ c.requires.floor c.requires.edge _ _ c.copy-from-slice.ensures.after c.settle.ensures (sym c.has_empty.ensures ∙ c.if-has-empty.true)
+pub returns-then-has_empty : goal.returns-then-has_empty
+returns-then-has_empty g c = end_at_once _ c.requires.posed _ _ c.requires.floor c.requires.edge _ _ c.copy_from_slice.ensures.after c.settle.ensures (sym c.has_empty.ensures ∙ c.if-has_empty.true)
 
 pub turns-init : goal.turns-init
-turns-init g c = turn_start _ c.requires.posed _ _ c.requires.floor c.requires.edge _ _ c.copy-from-slice.ensures.after c.settle.ensures (sym c.has_empty.ensures ∙ c.if-has-empty.false) _ c.copy-from-slice-2.ensures.after _ c.requires.onward _ (omega (arith, c.requires.sets, c.requires.posed.some))
+turns-init g c = turn_start _ c.requires.posed _ _ c.requires.floor c.requires.edge _ _ c.copy_from_slice.ensures.after c.settle.ensures (sym c.has_empty.ensures ∙ c.if-has_empty.false) _ c.copy_from_slice-2.ensures.after _ c.requires.onward _ (omega (arith, c.requires.sets, c.requires.posed.some))
 
 pub refresh-requires : goal.refresh-requires
 refresh-requires g c = record {
   size = c.requires.posed.relations;
   suits = root_suits _ c.requires.posed _ _ _ _ _ _ _ _ _ _ c.turns.invariant c.period-period.result c.period-period.ensures;
-  rest = omega (arith, c.turns.auto.rest, c.copy-from-slice-2.ensures.len, c.requires.rest, root_length _ c.requires.posed _ _ _ _ _ _ _ _ _ _ c.turns.invariant c.period-period.result c.period-period.ensures);
+  rest = omega (arith, c.turns.auto.rest, c.copy_from_slice-2.ensures.len, c.requires.rest, root_length _ c.requires.posed _ _ _ _ _ _ _ _ _ _ c.turns.invariant c.period-period.result c.period-period.ensures);
   minutes = omega (arith, c.turns.invariant.len, root_length _ c.requires.posed _ _ _ _ _ _ _ _ _ _ c.turns.invariant c.period-period.result c.period-period.ensures);
   below = λ i h. omega (arith, c.turns.invariant.low i h, c.requires.posed.most);
 }
@@ -52,13 +52,13 @@ pub turns-smaller-then-place-d : goal.turns-smaller-then-place-d
 turns-smaller-then-place-d g c = dead_less _ c.requires.posed _ _ _ _ _ _ _ _ _ _ c.turns.invariant c.period-period.result c.period-period.ensures _ c.refresh.ensures _ c.in-Some.ensures _ c.lower.ensures _ _ c.descend.ensures c.if-descend.false c.if-count-budget.false _ _ c.raise-place.ensures
 
 pub turns-preserved-then-place-d : goal.turns-preserved-then-place-d
-turns-preserved-then-place-d g c = turn_dead_back _ c.requires.posed _ _ _ _ _ _ _ _ _ _ c.turns.invariant c.period-period.result c.period-period.ensures _ c.refresh.ensures _ c.in-Some.ensures _ c.lower.ensures _ _ c.descend.ensures c.if-descend.false c.if-count-budget.false _ _ c.raise-place.ensures _ c.copy-from-slice-else-descend.ensures.after c.if-place-d.true
+turns-preserved-then-place-d g c = turn_dead_back _ c.requires.posed _ _ _ _ _ _ _ _ _ _ c.turns.invariant c.period-period.result c.period-period.ensures _ c.refresh.ensures _ c.in-Some.ensures _ c.lower.ensures _ _ c.descend.ensures c.if-descend.false c.if-count-budget.false _ _ c.raise-place.ensures _ c.copy_from_slice-else-descend.ensures.after c.if-place-d.true
 
 pub turns-smaller-else-place-d : goal.turns-smaller-else-place-d
-turns-smaller-else-place-d g c = dead_less_here _ c.requires.posed _ _ _ _ _ _ _ _ _ _ c.turns.invariant c.period-period.result c.period-period.ensures _ c.refresh.ensures _ c.in-Some.ensures _ c.lower.ensures _ _ c.descend.ensures c.if-descend.false c.if-count-budget.false _ _ c.raise-place.ensures _ c.copy-from-slice-else-descend.ensures.after c.if-place-d.false
+turns-smaller-else-place-d g c = dead_less_here _ c.requires.posed _ _ _ _ _ _ _ _ _ _ c.turns.invariant c.period-period.result c.period-period.ensures _ c.refresh.ensures _ c.in-Some.ensures _ c.lower.ensures _ _ c.descend.ensures c.if-descend.false c.if-count-budget.false _ _ c.raise-place.ensures _ c.copy_from_slice-else-descend.ensures.after c.if-place-d.false
 
 pub turns-preserved-else-place-d : goal.turns-preserved-else-place-d
-turns-preserved-else-place-d g c = turn_dead _ c.requires.posed _ _ _ _ _ _ _ _ _ _ c.turns.invariant c.period-period.result c.period-period.ensures _ c.refresh.ensures _ c.in-Some.ensures _ c.lower.ensures _ _ c.descend.ensures c.if-descend.false c.if-count-budget.false _ _ c.raise-place.ensures _ c.copy-from-slice-else-descend.ensures.after c.if-place-d.false
+turns-preserved-else-place-d g c = turn_dead _ c.requires.posed _ _ _ _ _ _ _ _ _ _ c.turns.invariant c.period-period.result c.period-period.ensures _ c.refresh.ensures _ c.in-Some.ensures _ c.lower.ensures _ _ c.descend.ensures c.if-descend.false c.if-count-budget.false _ _ c.raise-place.ensures _ c.copy_from_slice-else-descend.ensures.after c.if-place-d.false
 
 pub returns-then-d-eq0 : goal.returns-then-d-eq0
 returns-then-d-eq0 g c = end_none _ c.requires.posed _ _ _ _ _ _ _ _ _ _ c.turns.invariant c.period-period.result c.period-period.ensures c.in-None.ensures c.if-d-eq0.true

@@ -28,7 +28,7 @@ returns-in-Open g c =
     let x = c.args.timetable.now in
     let q = c.«open».new.self.contents in
     record {
-      on = as_asked p q m c.args.request.now.floor.now p.events (length c.args.workspace.now) c.args.request.now.action (Open) x x c.of-change-in-Open.result (of_change c.«open».result) c.in-Open.is c.of-change-in-Open.ensures
+      on = as_asked p q m c.args.request.now.floor.now p.events (length c.args.workspace.now) c.args.request.now.action (Open) x x c.of_change-in-Open.result (of_change c.«open».result) c.in-Open.is c.of_change-in-Open.ensures
           (change_on p (open_level) q x c.«open».result (ap (λ z. z.period) c.«open».ensures.plan ∙ kept_period _ p (opening p) refl) (ap (λ z. z.events) c.«open».ensures.plan ∙ kept_events _ p (opening p) refl) (λ l s e. (e, refl)) c.«open».ensures.list);
       workspace = lent_same c.args.workspace.now;
     }
@@ -41,7 +41,7 @@ returns-in-Shut g c =
     let x = c.args.timetable.now in
     let q = c.shut.new.self.contents in
     record {
-      on = as_asked p q m c.args.request.now.floor.now p.events (length c.args.workspace.now) c.args.request.now.action (Shut) x x c.of-change-in-Shut.result (of_change c.shut.result) c.in-Shut.is c.of-change-in-Shut.ensures
+      on = as_asked p q m c.args.request.now.floor.now p.events (length c.args.workspace.now) c.args.request.now.action (Shut) x x c.of_change-in-Shut.result (of_change c.shut.result) c.in-Shut.is c.of_change-in-Shut.ensures
           (change_on p (shut_level) q x c.shut.result (ap (λ z. z.period) c.shut.ensures.plan ∙ kept_period _ p (shutting p) refl) (ap (λ z. z.events) c.shut.ensures.plan ∙ kept_events _ p (shutting p) refl) (λ l s e. (e, refl)) c.shut.ensures.list);
       workspace = lent_same c.args.workspace.now;
     }
@@ -55,7 +55,7 @@ returns-in-Left g c =
     let w = c.args.workspace.now in
     let e = c.in-Left.event in
     record {
-      on = as_asked p p m c.args.request.now.floor.now p.events (length w) c.args.request.now.action (Left e) x x c.of-left.result (of_left c.left.result) c.in-Left.is c.of-left.ensures
+      on = as_asked p p m c.args.request.now.floor.now p.events (length w) c.args.request.now.action (Left e) x x c.of_left.result (of_left c.left.result) c.in-Left.is c.of_left.ensures
           (left_on p m e (length w) x c.left.result c.left.ensures.list);
       workspace = lent_by _ w c.left.new.workspace (left_long p.period p.events m e (length w)) c.left.ensures.workspace;
     }

@@ -30,7 +30,7 @@ returns-then-replies-count g c =
     let T = c.args.period in
     let E = c.args.events in
     let cs : List Call = calls_of f E (length c.args.workspace.now) c.args.requests.now in
-    let made : make_refusal T E ≡ None = ok_none (make_refusal T E) _ c.in-default.ensures.answer in
+    let made : make_refusal T E ≡ None = ok_none (make_refusal T E) _ c.in_default.ensures.answer in
     let is : replay_refusal T E (length c.args.requests.now) (length c.args.replies.now) (length c.args.timetables.now) ≡ Some Short =
     refused_short T E _ _ _ made (elim c.then-replies-count.branch [ then-replies-count-via-then-replies-count w ↦ inl w.if-replies-count.true | then-replies-count-via-else-replies-count+then-timetables-events w ↦ inr w.if-timetables-events.true ]) in
     record { answer = ap (λ z. reply z tt) (sym is); run = unchanged _ T E cs c.args.replies.now c.args.timetables.now c.args.workspace.now Short is }
@@ -40,10 +40,10 @@ run-requires g c =
     let T = c.args.period in
     let E = c.args.events in
     let q = c.make.new.self.contents in
-    let made : make_refusal T E ≡ None = ok_none (make_refusal T E) _ c.in-default.ensures.answer in
-    let is : q ≡ fresh T E = c.in-default.ensures.plan ∙ ap (λ z. unless_refused z (fresh T E) c.blank-plan.result.contents) made in
+    let made : make_refusal T E ≡ None = ok_none (make_refusal T E) _ c.in_default.ensures.answer in
+    let is : q ≡ fresh T E = c.in_default.ensures.plan ∙ ap (λ z. unless_refused z (fresh T E) c.blank-plan.result.contents) made in
     record {
-      new = subst (λ z. Made z c.blank-plan.result.contents q) made c.in-default.ensures.list;
+      new = subst (λ z. Made z c.blank-plan.result.contents q) made c.in_default.ensures.list;
       replies = c.if-replies-count.false;
       timetables = subst (λ z. length c.args.requests.now * z ≤ length c.args.timetables.now) (sym (ap (λ z. z.events) is)) (long_enough T E _ (length c.args.replies.now) _ made c.if-timetables-events.false);
     }
@@ -57,8 +57,8 @@ returns g c =
     let w = length c.args.workspace.now in
     let cs : List Call = calls_of f E w rs in
     let q = c.make.new.self.contents in
-    let made : make_refusal T E ≡ None = ok_none (make_refusal T E) _ c.in-default.ensures.answer in
-    let is : q ≡ fresh T E = c.in-default.ensures.plan ∙ ap (λ z. unless_refused z (fresh T E) c.blank-plan.result.contents) made in
+    let made : make_refusal T E ≡ None = ok_none (make_refusal T E) _ c.in_default.ensures.answer in
+    let is : q ≡ fresh T E = c.in_default.ensures.plan ∙ ap (λ z. unless_refused z (fresh T E) c.blank-plan.result.contents) made in
     let right : RightReplies T E cs c.run.new.replies c.args.timetables.now c.run.new.timetables =
     subst (λ z. RightReplies z.period z.events (calls_of f z.events w rs) c.run.new.replies c.args.timetables.now c.run.new.timetables) is c.run.ensures.right in
     let many : length cs ≡ length rs = length-map rs (call_of f E w) in
