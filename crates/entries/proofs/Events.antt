@@ -1,5 +1,5 @@
 -- One event more of a line is tested.
-use Rattle.std.proofs.Common.{◌≡◌, ℕ, suc, ◌+◌, ◌-◌, ◌<◌, ◌≤◌, Bool, true, false, cond, not, ◌&&◌, leb, List, [], ◌∷◌, ◌++◌, length, get_or, take, drop, Some, Option, sym, refl, ap, ◌∙◌, inl, inr, arith, length-drop, length-take, get_or-drop, get_or-take, leb-true}
+use Rattle.std.proofs.Common.{◌≡◌, ℕ, suc, ◌+◌, ◌-◌, ◌<◌, ◌≤◌, Bool, true, cond, not, ◌&&◌, leb, List, [], ◌∷◌, ◌++◌, length, get_or, take, drop, Some, sym, ap, ◌∙◌, inl, inr, arith, length-drop, length-take, get_or-drop, get_or-take, leb-true}
 use Rattle.std.proofs.lemmas.List.{at_drop_more, take_more, get_or_past}
 use Rattle.std.proofs.lemmas.Bool.{and_parts, cases_lt}
 use Rattle.entries.specs.Tests.{from_to, named, first_wrong}

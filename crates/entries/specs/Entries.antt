@@ -1,5 +1,5 @@
 -- The record that a line enters in a table, and the first refusal that a line gets.
-use Rattle.std.specs.Prelude.{ℕ, ◌-◌, cond, List, [], ◌∷◌, length, Some, None, Option}
+use Rattle.std.specs.Prelude.{ℕ, ◌-◌, List, [], ◌∷◌, length, Some, None, Option}
 use Rattle.refusals.specs.declared.Refusal.{Refusal}
 use Rattle.refusals.specs.declared.Refusal.TheVariants.{Form, Turn, Range, Event}
 use Rattle.records.specs.declared.Span as spans

@@ -2,7 +2,6 @@
 use Rattle.std.specs.Prelude.{ℕ, suc, ◌+◌, Bool, false, cond, not, ◌&&◌, ◌||◌, List, [], ◌∷◌, ◌++◌, map, drop, Some, None, Option, ◌==◌, nat_le, nat_lt}
 use Rattle.text.specs.declared.kind.Kind.{Kind}
 use Rattle.text.specs.declared.kind.Kind.TheVariants.{Heading, Span, Journey}
-use Rattle.text.specs.Fields.{kind_of}
 use Rattle.entries.specs.Form.{values, nth, value_or_zero}
 
 -- from low to high

@@ -1,7 +1,7 @@
 -- A find that is refused or answers.
-use Rattle.std.proofs.Common.{◌≡◌, ℕ, ◌^◌, ◌<◌, ◌≤◌, Bool, true, false, cond, not, ◌||◌, eqb, ltb, ◌⊎◌, List, [], ◌∷◌, ◌++◌, length, take, is_some, Some, None, Ok, Err, Option, Result, sym, refl, ap, ◌∙◌, subst, inl, inr, arith}
+use Rattle.std.proofs.Common.{◌≡◌, ℕ, ◌^◌, ◌<◌, ◌≤◌, Bool, true, false, not, ◌||◌, eqb, ltb, ◌⊎◌, List, length, take, is_some, Some, None, Ok, Err, Option, Result, sym, refl, ap, ◌∙◌, subst, inl, inr, arith}
 use Rattle.std.proofs.lemmas.Bool.{cond-true, cond-false, lt-ltb, le-ltb, or_left, or_right, or_from, or_parts, eqb-true, not-false, cases_lt, false≢true}
-use Rattle.std.proofs.lemmas.List.{get_or-take, get_or_past, length-take}
+use Rattle.std.proofs.lemmas.List.{get_or-take, get_or_past}
 use Rattle.refusals.specs.declared.Refusal.{Refusal}
 use Rattle.refusals.specs.declared.Refusal.TheVariants.{Short, Range, Bank}
 use Rattle.minutes.specs.Minutes.{In, at}
@@ -10,7 +10,7 @@ use Rattle.minutes.proofs.Bits.{in_below}
 use Rattle.relations.specs.Meaning.{Meaning, Laws, size}
 use Rattle.bank.specs.Calls.{all_below}
 use Rattle.bank.proofs.Answering.{below_place}
-use Rattle.calls.specs.Calls.{Call, find, family, bank_unfit, or_else, find_refusal, ledger}
+use Rattle.calls.specs.Calls.{find, bank_unfit, or_else, find_refusal, ledger}
 use Rattle.calls.specs.Replies.{Replies}
 use Rattle.plan.specs.declared.contents.Contents.{Contents}
 use Rattle.plan.specs.Contents.{sets_of}
@@ -20,7 +20,7 @@ use Rattle.search.specs.declared.Answer.{Answer}
 use Rattle.search.specs.Search.{Problem, WellPosed, FloorOf}
 use Rattle.search.specs.Theorems.{problem}
 use Rattle.find.specs.Outcome.{Outcome, Replied}
-use Rattle.find.specs.Onward.{Onward, GoesOn}
+use Rattle.find.specs.Onward.{GoesOn}
 
 -- the list says of a find what the contents say
 pub goes_on : (p : Contents) (m : Meaning) (floor : List ℕ) (budget : ℕ) (old new : List ℕ) (w : ℕ) (r : Result Answer Refusal) →

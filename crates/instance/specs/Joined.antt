@@ -1,5 +1,5 @@
 -- The relations of an instance: its spans, and behind them its journeys.
-use Rattle.std.specs.Prelude.{◌≡◌, ℕ, ◌-◌, cond, ltb, List, [], length, take, Some, None, Ok, Err, Option, Result}
+use Rattle.std.specs.Prelude.{◌≡◌, ℕ, List, [], length, take, Ok, Err, Option, Result}
 use Rattle.refusals.specs.declared.Refusal.{Refusal}
 use Rattle.records.specs.declared.Span.{Span}
 use Rattle.records.specs.declared.Journey.{Journey}

@@ -1,5 +1,5 @@
 -- The line of a relation.
-use Rattle.std.specs.Prelude.{◌≡◌, ℕ, ◌+◌, ◌-◌, ◌<◌, ◌≤◌, cond, ◌&&◌, List, [], length, take, drop, Some, None, Option, nat_le, slice_index_or}
+use Rattle.std.specs.Prelude.{◌≡◌, ℕ, ◌+◌, ◌-◌, ◌<◌, ◌≤◌, cond, List, [], length, take, drop, Some, None, Option, nat_le, slice_index_or}
 use Rattle.records.specs.declared.Span.{Span}
 use Rattle.records.specs.declared.Journey.{Journey}
 use Rattle.reading.specs.Readings.{Reading}

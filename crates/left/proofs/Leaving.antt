@@ -8,7 +8,7 @@ use Rattle.refusals.specs.declared.Refusal.TheVariants.{Short, Event, Bank}
 use Rattle.minutes.specs.Minutes.{at}
 use Rattle.relations.specs.Meaning.{Meaning, size}
 use Rattle.rest.specs.Rest.{Left, Suits}
-use Rattle.calls.specs.Calls.{Call, left, family, no_event, bank_unfit, or_else, left_refusal, ledger}
+use Rattle.calls.specs.Calls.{Call, left, no_event, bank_unfit, or_else, left_refusal, ledger}
 use Rattle.calls.specs.Replies.{Replies}
 use Rattle.settle.specs.Workspace.{cleared}
 use Rattle.plan.specs.declared.contents.Contents.{Contents}

@@ -1,7 +1,7 @@
 -- Minutes of AND, OR and of a number below a power of two.
 use Rattle.std.proofs.Common.{◌≡◌, ℕ, ◌+◌, ◌-◌, ◌*◌, ◌/◌, ◌%◌, ◌^◌, ◌<◌, ◌≤◌, min, max, ◌⊎◌, sym, ap, ◌∙◌, subst, inl, inr, arith, pow_pos, pow_mono}
 use native.Mathlib.Nat.{div-eq_of_lt}
-use lib.Bits.{bit_and, bit_or, and_step, or_step, and_shr, or_shr, and_mask, mask_lt}
+use lib.Bits.{bit_and, bit_or, and_step, or_step, and_shr, or_shr, and_mask}
 use lib.Pow.{ones_split, field, mod-mod-pow}
 use lib.Pow as pow
 use Rattle.std.proofs.lemmas.Nat.{mod-mul-add, mod_below}

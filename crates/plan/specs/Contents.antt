@@ -1,5 +1,5 @@
 -- What a plan holds, and how its calls change that.
-use Rattle.std.specs.Prelude.{ℕ, zero, suc, ◌-◌, ◌^◌, cond, ◌||◌, List, take, set, replicate, None, Option, bit_and, nat_le, nat_lt, slice_index_or, slice_set}
+use Rattle.std.specs.Prelude.{ℕ, zero, suc, ◌-◌, ◌^◌, cond, ◌||◌, List, take, replicate, None, Option, bit_and, nat_le, nat_lt, slice_index_or, slice_set}
 use Rattle.refusals.specs.declared.Refusal.{Refusal}
 use Rattle.refusals.specs.declared.Refusal.TheVariants.{Range}
 use Rattle.minutes.specs.Minutes.{at}

@@ -1,5 +1,5 @@
 -- The tables while the lines of a text are taken: the records so far, and behind them what stood there before.
-use Rattle.std.proofs.Common.{◌≡◌, ℕ, suc, ◌+◌, ◌<◌, ◌≤◌, min, Bool, true, false, cond, ltb, leb, List, [], ◌∷◌, ◌++◌, length, drop, set, Some, None, Ok, Err, Option, Result, sym, refl, ap, ◌∙◌, subst, append_assoc, append-nil, add-one, arith, length-append, length-drop, length-set, ltb-true}
+use Rattle.std.proofs.Common.{◌≡◌, ℕ, ◌+◌, ◌<◌, ◌≤◌, min, Bool, true, false, cond, leb, List, [], ◌∷◌, ◌++◌, length, drop, set, Some, None, Err, Option, sym, refl, ap, ◌∙◌, subst, append_assoc, append-nil, arith, length-append, length-drop, ltb-true}
 use Rattle.refusals.specs.declared.Refusal.{Refusal}
 use Rattle.refusals.specs.declared.Refusal.TheVariants.{Short, Full}
 use Rattle.refusals.specs.declared.Fault.{Fault}
@@ -13,9 +13,9 @@ use Rattle.entries.specs.declared.entry.Entry.{Entry}
 use Rattle.entries.specs.declared.entry.Entry.TheVariants.{Span, Journey}
 use Rattle.entries.specs.Entries.{before, first_of, heading_refusal, record_tests, entry_by, entry_of}
 use Rattle.entries.specs.Form.{nth}
-use Rattle.reading.specs.Readings.{Reading, Progress, fault_at, fault_if, full_fault, take_refusal, take_fault, counted, entered, unless, taken, all_taken, earlier, first_fault, begun, begun_if}
+use Rattle.reading.specs.Readings.{Reading, Progress, fault_at, fault_if, full_fault, take_refusal, take_fault, counted, entered, unless, taken, all_taken, earlier, first_fault, begun_if}
 use Rattle.reading.specs.Calls.{over, read_unless, begun_read, rows_read, text_read}
-use Rattle.reading.specs.Whole.{with_span, spans_in, with_journey, journeys_in, Whole, WholeIfRead}
+use Rattle.reading.specs.Whole.{with_span, spans_in, with_journey, journeys_in, WholeIfRead}
 
 -- a record at the first place behind those entered
 placed : {X : Type 0} (t done : List X) (x : X) → length done < length t →

@@ -1,5 +1,5 @@
 -- What the reading types of the code hold, as a reading.
-use Rattle.std.specs.Prelude.{ℕ, Ok, Err, Result}
+use Rattle.std.specs.Prelude.{Ok, Err, Result}
 use Rattle.refusals.specs.declared.Fault.{Fault}
 use Rattle.reading.specs.declared.tally.Tally.{Tally}
 use Rattle.reading.specs.declared.readings.OpenReading.{OpenReading}

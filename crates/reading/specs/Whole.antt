@@ -8,7 +8,7 @@ use Rattle.entries.specs.declared.entry.Entry.{Entry}
 use Rattle.entries.specs.declared.entry.Entry.TheVariants.{Span, Journey}
 use Rattle.entries.specs.Form.{nth}
 use Rattle.entries.specs.Entries.{entry_of}
-use Rattle.reading.specs.Readings.{Reading, Progress}
+use Rattle.reading.specs.Readings.{Progress}
 
 -- the spans among what lines enter, in the order of the lines
 abbrev pub with_span : Option Entry → List spans.Span → List spans.Span

@@ -1,10 +1,10 @@
 -- Every search has an answer.
-use Rattle.std.proofs.Common.{◌≡◌, ℕ, zero, suc, ◌<◌, ◌≤◌, ◌⊎◌, List, [], length, take, sym, refl, ap, ◌∙◌, subst, inl, inr, arith}
-use Rattle.std.proofs.lemmas.Bool.{cases_order, cases_lt}
+use Rattle.std.proofs.Common.{◌≡◌, ℕ, zero, suc, ◌<◌, ◌≤◌, List, [], length, take, sym, refl, subst, inl, inr, arith}
+use Rattle.std.proofs.lemmas.Bool.{cases_lt}
 use Rattle.minutes.specs.Minutes.{at, Before}
 use Rattle.search.specs.declared.Answer.{Answer}
 use Rattle.search.specs.declared.Answer.TheVariants.{Found, Nothing, Spent}
-use Rattle.search.specs.Search.{Problem, events, WellPosed, FloorOf, Way, DeadEnd, Sought, Unsolved, FirstAfter, NextFloor, Finds}
+use Rattle.search.specs.Search.{Problem, events, WellPosed, FloorOf, Way, DeadEnd, FirstAfter, NextFloor, Finds}
 use Rattle.search.specs.Theorems.{AlwaysAnswers}
 use Rattle.search.proofs.Edges.{Edge}
 use Rattle.search.proofs.Raising.{raised_next, raised_floor, raised_first}

@@ -1,15 +1,15 @@
 -- The walk's start, its way down and its ends.
-use Rattle.std.proofs.Common.{◌≡◌, ℕ, zero, suc, ◌+◌, ◌-◌, ◌^◌, ◌<◌, ◌≤◌, ◌⊎◌, List, [], ◌∷◌, ◌++◌, length, get_or, take, sym, refl, ap, ◌∙◌, subst, inl, inr, arith}
+use Rattle.std.proofs.Common.{◌≡◌, ℕ, suc, ◌<◌, ◌≤◌, ◌⊎◌, List, [], length, take, sym, ◌∙◌, subst, inl, inr, arith}
 use Rattle.std.proofs.lemmas.Bool.{cases_order, cases_lt}
-use Rattle.std.proofs.lemmas.List.{ext_get_or, length-take, get_or-take, take-take, take_all}
-use Rattle.minutes.specs.Minutes.{In, at, Timetable, Lies, NoneEmpty, Before}
-use Rattle.search.specs.Search.{Problem, events, WellPosed, FloorOf, Way, rest_of, Alive, front, Tried, DeadEnd, Solves, Sought, Unsolved, Counted, Listed, Begins}
-use Rattle.search.proofs.Orders.{before_irreflexive, before_trans, Compared, lower, upper, inner, outer, compared, begins_same, before_begins, begins_before, begins_not_before, begins_not_after, take_begins, two_timetables}
-use Rattle.search.proofs.Living.{alive_front, alive_left, left_allowed, solution_lies, solution_alive, alive_solves}
-use Rattle.search.proofs.Raising.{Edge, take_same}
+use Rattle.std.proofs.lemmas.List.{ext_get_or, length-take, get_or-take, take_all}
+use Rattle.minutes.specs.Minutes.{In, at, Before}
+use Rattle.search.specs.Search.{Problem, events, WellPosed, FloorOf, Way, rest_of, Alive, DeadEnd, Solves, Sought, Unsolved, Counted, Listed}
+use Rattle.search.proofs.Orders.{before_trans, before_begins, begins_not_before, take_begins, two_timetables}
+use Rattle.search.proofs.Living.{left_allowed, alive_solves}
+use Rattle.search.proofs.Raising.{take_same}
 use Rattle.search.proofs.Listing.{listed_same}
 pub use Rattle.search.proofs.Edges.{Lowered}
-use Rattle.search.proofs.Walk.{Path, Walk, tried_path, solution_path, begins_take, Barren}
+use Rattle.search.proofs.Walk.{Path, Walk, tried_path, solution_path}
 
 -- t is the lowest minute left at place d, from the floor's on
 pub record Lowest (q : Problem) (o : Way q) (y : List ℕ) (d t : ℕ) : Type 0 where

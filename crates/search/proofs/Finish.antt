@@ -1,12 +1,12 @@
 -- A walk comes to an end: every search has a number.
-use Rattle.std.proofs.Common.{◌≡◌, ℕ, zero, suc, ◌+◌, ◌-◌, ◌*◌, ◌^◌, ◌<◌, ◌≤◌, ◌⊎◌, List, [], ◌∷◌, ◌++◌, length, get_or, take, replicate, sym, refl, ap, ◌∙◌, subst, inl, inr, arith}
+use Rattle.std.proofs.Common.{◌≡◌, ℕ, zero, suc, ◌+◌, ◌-◌, ◌<◌, ◌≤◌, ◌⊎◌, List, [], ◌∷◌, ◌++◌, length, take, replicate, sym, refl, ap, ◌∙◌, subst, inl, inr, arith}
 use Rattle.std.proofs.lemmas.Bool.{cases_order, cases_lt}
 use Rattle.std.proofs.lemmas.List.{length-take, get_or-take, length-append, length-replicate, get_or_append_left, get_or-append_right, get_or-replicate, get_or_past}
-use Rattle.minutes.specs.Minutes.{In, at, NoneEmpty, Before}
-use Rattle.search.specs.Search.{Problem, events, WellPosed, FloorOf, Way, rest_of, Alive, Solves, Sought, Unsolved, Counted, Listed}
+use Rattle.minutes.specs.Minutes.{In, at, Before}
+use Rattle.search.specs.Search.{Problem, events, WellPosed, FloorOf, Way, rest_of, Alive, Sought, Unsolved, Counted, Listed}
 use Rattle.minutes.proofs.Sets.{bit_cases}
-use Rattle.search.proofs.Living.{left_allowed, rest_length}
-use Rattle.search.proofs.Raising.{Edge, Raised, raised_before, raised_floor}
+use Rattle.search.proofs.Living.{left_allowed}
+use Rattle.search.proofs.Raising.{Raised, raised_before, raised_floor}
 use Rattle.search.proofs.Listing.{more, more_low}
 use Rattle.search.proofs.Walk.{Walk, dead_step, up_step}
 use Rattle.search.proofs.Ends.{Lowered, Lowest, start, down_step, found_end, none_end}

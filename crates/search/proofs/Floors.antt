@@ -1,16 +1,11 @@
 -- Only the minutes of a floor's first events count.
-use Rattle.std.proofs.Common.{◌≡◌, ℕ, zero, suc, ◌+◌, ◌-◌, ◌*◌, ◌^◌, ◌<◌, ◌≤◌, ◌⊎◌, List, [], ◌∷◌, ◌++◌, length, get_or, take, replicate, sym, refl, ap, ◌∙◌, subst, inl, inr, arith}
-use Rattle.std.proofs.lemmas.Bool.{cases_order, cases_lt}
-use Rattle.std.proofs.lemmas.List.{ext_get_or, length-take, get_or-take, length-append, length-replicate, get_or_append_left, get_or-append_right, get_or-replicate, take_all, take-take}
-use Rattle.minutes.specs.Minutes.{In, at, NoneEmpty, Before, Timetable}
-use Rattle.search.specs.Search.{Problem, events, WellPosed, FloorOf, Way, rest_of, Alive, Tried, DeadEnd, Solves, Sought, Unsolved, Counted, Listed, FirstAfter, NextFloor, Says, Finds, Begins}
+use Rattle.std.proofs.Common.{◌≡◌, ℕ, ◌<◌, ◌≤◌, List, length, take, sym, ◌∙◌, arith}
+use Rattle.std.proofs.lemmas.List.{ext_get_or, length-take, get_or-take}
+use Rattle.minutes.specs.Minutes.{at, Before}
+use Rattle.search.specs.Search.{Problem, events, FloorOf, Way, DeadEnd, Solves, Sought, Counted, Says, Finds}
 use Rattle.search.specs.declared.Answer.{Answer}
 use Rattle.search.specs.declared.Answer.TheVariants.{Found, Nothing, Spent}
-use Rattle.search.specs.Theorems.{added}
-use Rattle.search.proofs.Orders.{before_irreflexive, before_trans, Compared, lower, upper, inner, outer, compared, begins_same, before_begins, begins_before, begins_not_before, begins_not_after, take_begins, two_timetables}
-use Rattle.search.proofs.Listing.{listed_same, agrees, same_number}
-use Rattle.search.proofs.Walk.{Path, path_low, tried_path, antichain}
-use Rattle.search.proofs.Finish.{End, search_ends}
+use Rattle.search.proofs.Listing.{listed_same}
 
 module _ (q : Problem) (o : Way q) (y z : List ℕ) (E≤y : events q ≤ length y) (E≤z : events q ≤ length z) (same : (j : ℕ) → j < events q → at y j ≡ at z j) where
   swap : (p : List ℕ) → length p ≤ events q → Before p y → Before p z

@@ -1,8 +1,7 @@
 -- Prefixes and their rests: what is alive.
-use Rattle.std.proofs.Common.{◌≡◌, ℕ, suc, ◌^◌, ◌<◌, ◌≤◌, ◌⊎◌, List, [], length, take, sym, refl, ap, ◌∙◌, subst, inl, inr, arith, pow_mono}
-use Rattle.std.proofs.lemmas.List.{ext_get_or, get_or_past, get_or-map, length-map}
-use Rattle.std.proofs.lemmas.Bool.{cases_lt}
-use Rattle.minutes.specs.Minutes.{Within, In, at, Timetable, Lies, Before, single, Words}
+use Rattle.std.proofs.Common.{◌≡◌, ℕ, ◌^◌, ◌<◌, ◌≤◌, List, [], length, take, sym, refl, ◌∙◌, subst, arith, pow_mono}
+use Rattle.std.proofs.lemmas.List.{ext_get_or, get_or-map, length-map}
+use Rattle.minutes.specs.Minutes.{Within, In, at, Timetable, Lies, Before, single}
 use Rattle.rest.specs.Rest.{Rest, Stable, Suits}
 use Rattle.relations.specs.Meaning.{Long}
 use Rattle.search.specs.Search.{Problem, events, held, Begins, WellPosed, Way, rest_of, Alive, Solves}

@@ -1,14 +1,13 @@
 -- What is true of every search.
-use Rattle.std.proofs.Common.{◌≡◌, ℕ, ◌+◌, ◌<◌, ◌≤◌, Bool, true, false, List, length, take, sym, refl, ap, ◌∙◌, subst, arith}
+use Rattle.std.proofs.Common.{◌≡◌, ℕ, ◌+◌, ◌<◌, ◌≤◌, List, length, take, sym, refl, ap, ◌∙◌, arith}
 use Rattle.std.proofs.lemmas.Bool.{false≢true}
 use Rattle.std.proofs.lemmas.List.{length-take, get_or-take}
 use Rattle.minutes.specs.Minutes.{at}
-use Rattle.relations.specs.Meaning.{Meaning}
 use Rattle.search.specs.declared.Answer.{Answer}
 use Rattle.search.specs.declared.Answer.TheVariants.{Found, Nothing, Spent}
-use Rattle.search.specs.Search.{Problem, events, WellPosed, FloorOf, Way, Says, Finds}
+use Rattle.search.specs.Search.{Problem, events, WellPosed, Way, Says, Finds}
 use Rattle.search.specs.InWords.{EarliestOrNone, TheNumber}
-use Rattle.search.specs.Theorems.{SameMeaning, problem, SomeWay, OneAnswer, FloorCut, added, MustAnswer, Resuming, EarliestOrNoneHolds, TheNumberHolds}
+use Rattle.search.specs.Theorems.{problem, SomeWay, OneAnswer, FloorCut, added, MustAnswer, Resuming, EarliestOrNoneHolds, TheNumberHolds}
 use Rattle.search.proofs.Living.{some_way}
 use Rattle.search.proofs.AnyWay.{any_way, counted_any}
 use Rattle.search.proofs.Answering.{one_answer}

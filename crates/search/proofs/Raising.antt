@@ -1,11 +1,10 @@
 -- Floor-Of one floor to the next: the first list after all that begin with its first d minutes.
-use Rattle.std.proofs.Common.{◌≡◌, ℕ, zero, suc, ◌+◌, ◌-◌, ◌*◌, ◌^◌, ◌<◌, ◌≤◌, ◌⊎◌, List, [], ◌∷◌, ◌++◌, length, get_or, take, replicate, sym, refl, ap, ◌∙◌, subst, inl, inr, arith}
+use Rattle.std.proofs.Common.{◌≡◌, ℕ, ◌-◌, ◌<◌, ◌≤◌, ◌⊎◌, List, ◌++◌, length, take, replicate, sym, ◌∙◌, subst, inl, inr, arith}
 use Rattle.std.proofs.lemmas.Bool.{cases_order, cases_lt}
 use Rattle.std.proofs.lemmas.List.{ext_get_or, length-take, get_or-take, length-append, length-replicate, get_or_append_left, get_or-append_right, get_or-replicate}
 use Rattle.minutes.specs.Minutes.{Before, at, Timetable}
 use Rattle.search.specs.Search.{FirstAfter, Begins}
 pub use Rattle.search.proofs.Edges.{Edge, Raised}
-use Rattle.search.proofs.Orders.{take_begins}
 
 pub take_same : (n : ℕ) (x y : List ℕ) → length x ≡ length y → ((j : ℕ) → j < n → at x j ≡ at y j) → take n x ≡ take n y
 take_same n x y e s = ext_get_or 0 (take n x) (take n y) (omega (arith, length-take n x, length-take n y))

@@ -1,16 +1,16 @@
 -- Two finds, the second from the floor that the first wrote, make one.
-use Rattle.std.proofs.Common.{◌≡◌, ℕ, zero, suc, ◌+◌, ◌-◌, ◌*◌, ◌^◌, ◌<◌, ◌≤◌, ◌⊎◌, List, [], ◌∷◌, ◌++◌, length, get_or, take, replicate, sym, refl, ap, ◌∙◌, subst, inl, inr, arith}
+use Rattle.std.proofs.Common.{◌≡◌, ℕ, zero, suc, ◌+◌, ◌-◌, ◌<◌, ◌≤◌, ◌⊎◌, List, ◌++◌, length, take, replicate, sym, refl, ap, ◌∙◌, subst, inl, inr, arith}
 use Rattle.std.proofs.lemmas.Bool.{cases_order, cases_lt}
-use Rattle.std.proofs.lemmas.List.{length-take, get_or-take, length-append, length-replicate, get_or_append_left, get_or-append_right, get_or-replicate, take_all, take-take}
-use Rattle.minutes.specs.Minutes.{In, at, NoneEmpty, Before, Timetable}
-use Rattle.search.specs.Search.{Problem, events, WellPosed, FloorOf, Way, rest_of, Alive, Tried, DeadEnd, Solves, Sought, Unsolved, Counted, Listed, FirstAfter, NextFloor, Says, Finds, Begins}
+use Rattle.std.proofs.lemmas.List.{length-take, get_or-take, length-append, length-replicate, get_or_append_left, get_or-append_right, get_or-replicate, take_all}
+use Rattle.minutes.specs.Minutes.{at, Before, Timetable}
+use Rattle.search.specs.Search.{Problem, events, WellPosed, FloorOf, Way, DeadEnd, Solves, Sought, Unsolved, Counted, Listed, FirstAfter, NextFloor, Says, Finds, Begins}
 use Rattle.search.specs.declared.Answer.{Answer}
 use Rattle.search.specs.declared.Answer.TheVariants.{Found, Nothing, Spent}
 use Rattle.search.specs.Theorems.{added}
-use Rattle.search.proofs.Orders.{before_irreflexive, before_trans, Compared, lower, upper, inner, outer, compared, begins_same, before_begins, begins_before, begins_not_before, begins_not_after, take_begins, two_timetables}
-use Rattle.search.proofs.Listing.{listed_same, agrees, same_number}
-use Rattle.search.proofs.Walk.{Path, path_low, tried_path, antichain}
-use Rattle.search.proofs.Finish.{End, search_ends}
+use Rattle.search.proofs.Orders.{before_irreflexive, before_trans, lower, upper, inner, outer, compared, begins_same, before_begins, begins_before}
+use Rattle.search.proofs.Listing.{agrees, same_number}
+use Rattle.search.proofs.Walk.{path_low, tried_path, antichain}
+use Rattle.search.proofs.Finish.{search_ends}
 use Rattle.search.proofs.Floors.{swap_dead, swap_solves}
 
 -- a prefix continued to a timetable by one minute

@@ -1,12 +1,12 @@
 -- Banks of the same meaning have the same answers.
-use Rattle.std.proofs.Common.{◌≡◌, ℕ, suc, ◌-◌, ◌<◌, ◌≤◌, List, [], ◌∷◌, length, sym, refl, ap, ◌∙◌, subst, arith}
-use Rattle.minutes.specs.Minutes.{In, at, Timetable, NoneEmpty}
-use Rattle.relations.specs.Meaning.{Meaning, Laws, Long, relation, size}
-use Rattle.rest.specs.Rest.{Stable, narrowed, Numbers, Suits, Meets}
+use Rattle.std.proofs.Common.{◌≡◌, ℕ, suc, ◌-◌, ◌<◌, List, [], ◌∷◌, length, sym, refl, ap, ◌∙◌, subst, arith}
+use Rattle.minutes.specs.Minutes.{In, at, NoneEmpty}
+use Rattle.relations.specs.Meaning.{Meaning, Laws, relation, size}
+use Rattle.rest.specs.Rest.{Stable, narrowed, Numbers, Suits}
 use Rattle.rest.proofs.Families.{suits_within}
 use Rattle.search.specs.declared.Answer.{Answer}
 use Rattle.search.specs.declared.Answer.TheVariants.{Found, Nothing, Spent}
-use Rattle.search.specs.Search.{Problem, events, held, WellPosed, Way, rest_of, Alive, DeadEnd, Solves, Sought, Unsolved, Counted, Listed, FirstAfter, NextFloor, Says, Finds}
+use Rattle.search.specs.Search.{held, WellPosed, Way, rest_of, DeadEnd, Solves, Sought, Counted, FirstAfter, Says, Finds}
 use Rattle.search.specs.Theorems.{SameMeaning, problem, SameAnswers}
 use Rattle.search.proofs.Living.{held_suits, is_rest, same_rests}
 use Rattle.search.proofs.Listing.{listed_same}

@@ -1,11 +1,11 @@
 -- The walk of a search: what is done, and how a step keeps it.
-use Rattle.std.proofs.Common.{◌≡◌, ℕ, zero, suc, ◌+◌, ◌-◌, ◌^◌, ◌<◌, ◌≤◌, ◌⊎◌, List, [], ◌∷◌, ◌++◌, length, get_or, take, sym, refl, ap, ◌∙◌, subst, inl, inr, arith}
-use Rattle.std.proofs.lemmas.Bool.{cases_order, cases_lt}
-use Rattle.std.proofs.lemmas.List.{ext_get_or, length-take, get_or-take, take-take, take_all}
-use Rattle.minutes.specs.Minutes.{In, at, Timetable, Lies, NoneEmpty, Before}
-use Rattle.search.specs.Search.{Problem, events, WellPosed, FloorOf, Way, rest_of, Alive, front, Tried, DeadEnd, Solves, Sought, Unsolved, Counted, Listed, Begins}
-use Rattle.search.proofs.Orders.{before_irreflexive, before_trans, Compared, lower, upper, inner, outer, compared, begins_same, before_begins, begins_before, begins_not_before, begins_not_after, take_begins, two_timetables}
-use Rattle.search.proofs.Living.{alive_front, alive_left, left_allowed, solution_lies, solution_alive, alive_solves}
+use Rattle.std.proofs.Common.{◌≡◌, ℕ, suc, ◌-◌, ◌<◌, ◌≤◌, ◌⊎◌, List, length, take, sym, refl, ap, ◌∙◌, subst, inl, inr, arith}
+use Rattle.std.proofs.lemmas.Bool.{cases_lt}
+use Rattle.std.proofs.lemmas.List.{ext_get_or, length-take, get_or-take, take-take}
+use Rattle.minutes.specs.Minutes.{In, at, Before}
+use Rattle.search.specs.Search.{Problem, events, WellPosed, Way, rest_of, Alive, front, Tried, DeadEnd, Solves, Listed, Begins}
+use Rattle.search.proofs.Orders.{before_irreflexive, before_trans, lower, upper, inner, outer, compared, begins_same, before_begins, begins_before, begins_not_before, begins_not_after, take_begins}
+use Rattle.search.proofs.Living.{alive_front, alive_left, left_allowed, solution_lies, solution_alive}
 use Rattle.search.proofs.Raising.{Edge, Raised, take_same, raised_before, raised_next, raised_floor}
 use Rattle.search.proofs.Listing.{listed_same, listed_more, more}
 

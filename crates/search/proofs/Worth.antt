@@ -1,5 +1,5 @@
 -- A floor as a number, so that a search ends.
-use Rattle.std.proofs.Common.{◌≡◌, ℕ, zero, suc, ◌+◌, ◌-◌, ◌*◌, ◌^◌, ◌<◌, ◌≤◌, ◌⊎◌, List, [], ◌∷◌, ◌++◌, length, get_or, take, sym, refl, ap, ◌∙◌, subst, inl, inr, mul-le-mul_right, pow-suc, arith}
+use Rattle.std.proofs.Common.{◌≡◌, ℕ, zero, suc, ◌+◌, ◌-◌, ◌*◌, ◌^◌, ◌<◌, ◌≤◌, List, [], ◌∷◌, length, sym, ap, ◌∙◌, subst, mul-le-mul_right, pow-suc, arith}
 use native.Mathlib.Nat.{pow-zero}
 use Rattle.minutes.specs.Minutes.{Before, at}
 use Rattle.search.proofs.Raising.{Edge}

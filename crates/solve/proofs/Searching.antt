@@ -1,5 +1,5 @@
 -- The search of an instance, from what its steps promise.
-use Rattle.std.proofs.Common.{◌≡◌, ℕ, ◌≤◌, cond, ◌&&◌, List, [], length, Ok, Err, Result, sym, refl, ap, ◌∙◌, subst, arith, le-leb}
+use Rattle.std.proofs.Common.{◌≡◌, ℕ, ◌≤◌, cond, ◌&&◌, List, [], length, Ok, Err, Result, sym, ap, ◌∙◌, subst, arith, le-leb}
 use Rattle.refusals.specs.declared.Refusal.{Refusal}
 use Rattle.records.specs.declared.Span.{Span}
 use Rattle.records.specs.declared.Journey.{Journey}

@@ -1,8 +1,7 @@
 -- One minute of a set by shifts.
-use Rattle.std.proofs.Common.{◌≡◌, ℕ, ◌+◌, ◌*◌, ◌/◌, ◌%◌, ◌^◌, ◌<◌, ◌≤◌, sym, refl, ap, ◌∙◌, subst, arith}
+use Rattle.std.proofs.Common.{◌≡◌, ℕ, ◌*◌, ◌/◌, ◌%◌, ◌^◌, ◌<◌, ap, ◌∙◌, arith}
 use lib.Bits.{bit_and}
 use Rattle.std.proofs.lemmas.Nat.{and_mask, shl_whole}
-use Rattle.minutes.specs.Minutes.{In}
 use Rattle.search.specs.Search.{only}
 
 pub bit_one : (x : ℕ) → bit_and x 1 ≡ x % 2

@@ -1,7 +1,7 @@
 -- The pieces of a list of bytes are the one list of pieces without a separator that gives the bytes back.
 use Rattle.std.proofs.Common.{◌≡◌, ℕ, Bool, true, false, cond, ◌||◌, eqb, List, [], ◌∷◌, ◌++◌, sym, refl, ap, ◌∙◌, arith, eq-eqb, eqb-true}
 use Rattle.std.proofs.lemmas.Bool.{or_parts}
-use Rattle.text.specs.Pieces.{onto, pieces, joined, holds, divisible, Divides, Division}
+use Rattle.text.specs.Pieces.{onto, pieces, joined, holds, divisible, Division}
 
 module _ (sep : ℕ) where
   -- one byte more that is no separator

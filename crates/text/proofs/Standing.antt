@@ -1,7 +1,7 @@
 -- Each row is the part of its text at its place.
-use Rattle.std.proofs.Common.{◌≡◌, ℕ, ◌+◌, Bool, true, false, cond, List, [], ◌∷◌, ◌++◌, length, take, drop, refl, ap, ◌∙◌, subst, append_assoc, append-nil, arith, length-append}
+use Rattle.std.proofs.Common.{◌≡◌, ℕ, ◌+◌, Bool, true, false, cond, List, [], ◌∷◌, ◌++◌, length, take, drop, refl, ap, ◌∙◌, subst, append_assoc, append-nil, length-append}
 use Rattle.std.specs.List.{AllByRecursion as All}
-use Rattle.text.specs.Pieces.{pieces, joined, Divides}
+use Rattle.text.specs.Pieces.{pieces, joined}
 use Rattle.text.specs.Rows.{Row, passed_over, rows_from, Stands, Lined}
 use Rattle.text.proofs.Division.{divided}
 

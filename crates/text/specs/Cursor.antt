@@ -1,5 +1,5 @@
 -- What a cursor over the pieces of a list of bytes has still to hand out.
-use Rattle.std.specs.Prelude.{◌≡◌, ℕ, ◌+◌, ◌<◌, ◌≤◌, true, cond, List, [], length}
+use Rattle.std.specs.Prelude.{◌≡◌, ℕ, ◌+◌, ◌≤◌, true, cond, List, [], length}
 use Rattle.text.specs.Pieces.{pieces}
 use Rattle.text.specs.declared.pieces.Pieces.{Pieces}
 

@@ -1,5 +1,4 @@
 -- What a line of the enum is, whatever its case.
-use Rattle.std.specs.Prelude.{◌≡◌, ℕ}
 use Rattle.text.specs.Rows.{Row}
 use Rattle.text.specs.declared.kind.Kind.{Kind}
 use Rattle.text.specs.declared.kind.Kind.TheVariants.{Heading as heading, Span as span, Journey as journey}

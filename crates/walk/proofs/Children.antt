@@ -1,11 +1,11 @@
 -- The rest of a longer prefix, from the rest of a shorter one.
-use Rattle.std.proofs.Common.{◌≡◌, ℕ, ◌<◌, ◌≤◌, ◌⊎◌, List, [], length, sym, refl, ap, ◌∙◌, subst, inl, inr, arith}
+use Rattle.std.proofs.Common.{◌≡◌, ℕ, ◌<◌, ◌≤◌, ◌⊎◌, List, [], length, sym, ◌∙◌, subst, inl, inr, arith}
 use Rattle.std.proofs.lemmas.Bool.{cases_lt}
 use Rattle.minutes.specs.Minutes.{Within, Sub, In, at}
 use Rattle.relations.specs.Meaning.{Meaning}
 use Rattle.rest.specs.Rest.{Rest}
 use Rattle.rest.proofs.Families.{within_trans}
-use Rattle.search.specs.Search.{only, held, Begins}
+use Rattle.search.specs.Search.{held, Begins}
 use Rattle.search.proofs.Held.{in_only, only_has, held_length, held_in, held_out, held_mono}
 
 -- a family held to a prefix is within the family

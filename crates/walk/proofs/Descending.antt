@@ -1,12 +1,12 @@
 -- Going down from the rest of a prefix to that of one minute more.
-use Rattle.std.proofs.Common.{◌≡◌, ℕ, suc, ◌+◌, ◌*◌, ◌%◌, ◌^◌, ◌<◌, ◌≤◌, Bool, true, false, ◌⊎◌, List, length, take, sym, refl, ap, ◌∙◌, subst, inl, inr, arith}
+use Rattle.std.proofs.Common.{◌≡◌, ℕ, ◌+◌, ◌*◌, ◌%◌, ◌^◌, ◌<◌, ◌≤◌, Bool, true, false, List, length, take, sym, refl, ap, ◌∙◌, subst, inl, inr, arith}
 use Rattle.std.proofs.lemmas.Nat.{one_shl}
 use Rattle.std.proofs.lemmas.Bool.{cases_lt, false≢true}
 use Rattle.std.proofs.lemmas.List.{length-take, get_or-take}
 use Rattle.minutes.specs.Minutes.{In, at, NoneEmpty}
 use Rattle.relations.specs.Meaning.{Meaning}
 use Rattle.minutes.proofs.Sets.{in_pow}
-use Rattle.search.specs.Search.{held, Begins}
+use Rattle.search.specs.Search.{held}
 use Rattle.search.proofs.Held.{held_length}
 use Rattle.alive.specs.Alive.{Settles}
 use Rattle.walk.specs.Walking.{Extends, Descended}

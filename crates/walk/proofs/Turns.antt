@@ -1,14 +1,13 @@
 -- What a turn of the walk keeps.
-use Rattle.std.proofs.Common.{◌≡◌, ℕ, suc, ◌+◌, ◌<◌, ◌≤◌, Bool, true, false, ◌⊎◌, List, [], length, take, set, sym, refl, ap, ◌∙◌, subst, inl, inr, add-one, arith}
+use Rattle.std.proofs.Common.{◌≡◌, ℕ, ◌+◌, ◌<◌, ◌≤◌, Bool, true, false, List, [], length, take, set, sym, refl, ap, ◌∙◌, subst, inl, inr, add-one, arith}
 use Rattle.std.proofs.lemmas.Bool.{cases_lt, cases_Bool, false≢true}
 use Rattle.std.proofs.lemmas.List.{length-take, get_or-take, get_or-set_same, get_or-set_other}
 use Rattle.minutes.specs.Minutes.{In, at, NoneEmpty}
-use Rattle.relations.specs.Meaning.{Meaning}
 use Rattle.rest.specs.Rest.{Rest, Suits, has_empty}
 use Rattle.rest.proofs.Families.{suits_within}
 use Rattle.rest.proofs.Settling.{one_rest}
 use Rattle.search.specs.declared.Answer.TheVariants.{Found, Nothing, Spent}
-use Rattle.search.specs.Search.{Problem, events, held, Begins, WellPosed, FloorOf, Way, rest_of, Alive, Finds}
+use Rattle.search.specs.Search.{Problem, events, held, WellPosed, FloorOf, Way, rest_of, Alive, Finds}
 use Rattle.search.proofs.Edges.{Raised, Lowered}
 use Rattle.search.proofs.Held.{held_length}
 use Rattle.search.proofs.Living.{some_way, is_rest, held_suits}

@@ -1,5 +1,5 @@
 -- What the parts of the walk promise (internal).
-use Rattle.std.specs.Prelude.{◌≡◌, ℕ, suc, ◌<◌, ◌≤◌, Bool, true, false, List, [], length}
+use Rattle.std.specs.Prelude.{◌≡◌, ℕ, suc, Bool, true, false, List, [], length}
 use Rattle.minutes.specs.Minutes.{NoneEmpty}
 use Rattle.relations.specs.Meaning.{Meaning}
 use Rattle.rest.specs.Rest.{Rest}

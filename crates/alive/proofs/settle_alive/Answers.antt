@@ -1,9 +1,7 @@
-use Rattle.std.proofs.Common.{◌≡◌, ℕ, ◌+◌, ◌<◌, ◌≤◌, Bool, true, false, sym, refl, subst, arith}
-use Rattle.relations.specs.Meaning.{Meaning, Laws, size}
+use Rattle.std.proofs.Common.{◌≡◌, ℕ, ◌+◌, Bool, true, false, sym, subst, arith}
 use Rattle.bank.specs.Calls.{meant, lawful}
 use Rattle.alive.proofs.Emptiness.{stops_dead, ends}
-use Rattle.settle.proofs.Turns.{Turning, Heard, changed, kept, Next, up, round, turning_none, all_quiet, turned, turned_less}
-use Rattle.alive.proofs.settle_alive.Given as given
+use Rattle.settle.proofs.Turns.{Heard, changed, kept, Next, up, round, turning_none, all_quiet, turned, turned_less}
 use Rattle.alive.proofs.settle_alive.Goals as goal
 use Rattle.alive.proofs.settle_alive.Goals.{then-narrow, else-narrow}
 

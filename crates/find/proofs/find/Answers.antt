@@ -1,5 +1,5 @@
-use Rattle.std.proofs.Common.{◌≡◌, ℕ, ◌+◌, ◌-◌, ◌<◌, ◌≤◌, true, false, ◌⊎◌, List, ◌++◌, length, take, drop, replicate, Some, None, sym, refl, ap, ◌∙◌, subst, inl, inr, arith}
-use Rattle.std.proofs.lemmas.List.{length-take, length-append, length-drop}
+use Rattle.std.proofs.Common.{◌≡◌, ◌-◌, true, false, ◌++◌, length, take, drop, replicate, Some, None, sym, ap, ◌∙◌, subst, inl, inr, arith}
+use Rattle.std.proofs.lemmas.List.{length-take, length-append}
 use Rattle.refusals.specs.declared.Refusal.TheVariants.{Short, Range, Bank}
 use Rattle.bank.specs.Calls.{meant, lawful, all_below}
 use Rattle.calls.specs.Calls.{bank_unfit, find_refusal, unless_refused}

@@ -1,4 +1,4 @@
-use Rattle.std.proofs.Common.{◌≡◌, [], sym, ap, ◌∙◌}
+use Rattle.std.proofs.Common.{[], sym, ap, ◌∙◌}
 use Rattle.reading.specs.Views.{closed}
 use Rattle.instance.proofs.Leaving.{joined_is, event_left, left_if, made_none, made_fresh}
 use Rattle.instance.proofs.minutes_left.Goals as goal

@@ -3,7 +3,6 @@ use Rattle.relations.specs.Meaning.{size}
 use Rattle.bank.specs.Calls.{meant, lawful}
 use Rattle.rest.proofs.Settling.{came_rest}
 use Rattle.settle.proofs.Turns.{Heard, changed, kept, Next, up, round, turning_none, all_quiet, turned, turned_less}
-use Rattle.settle.proofs.settle.Given as given
 use Rattle.settle.proofs.settle.Goals as goal
 use Rattle.settle.proofs.settle.Goals.{then-narrow, else-narrow}
 

@@ -1,4 +1,4 @@
-use Rattle.std.proofs.Common.{◌≡◌, [], sym, ap, ◌∙◌}
+use Rattle.std.proofs.Common.{[], sym, ap, ◌∙◌}
 use Rattle.reading.specs.Views.{closed}
 use Rattle.instance.proofs.Leaving.{joined_is, made_none, made_fresh}
 use Rattle.solve.proofs.Searching.{searched, searched_if}

@@ -1,4 +1,4 @@
-use Rattle.std.proofs.Common.{◌≡◌, Ok, Err, sym, refl, ap, ◌∙◌}
+use Rattle.std.proofs.Common.{Ok, Err, refl, ap}
 use Rattle.reading.specs.Views.{closed}
 use Rattle.solve.proofs.Searching.{solved_ok, solved_err, started}
 use Rattle.solve.proofs.solve.Goals as goal

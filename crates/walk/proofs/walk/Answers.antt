@@ -1,4 +1,4 @@
-use Rattle.std.proofs.Common.{◌≡◌, ℕ, ◌+◌, ◌<◌, ◌≤◌, length, sym, ap, ◌∙◌, arith}
+use Rattle.std.proofs.Common.{sym, ◌∙◌, arith}
 use Rattle.std.proofs.lemmas.List.{length-set}
 use Rattle.walk.proofs.Turns.{turn_start, end_at_once, root_suits, root_length, rest_suits, rest_length, rest_full, end_none, up_less, turn_up, down_less, down_low, turn_down, end_found, end_spent, dead_less, turn_dead_back, turn_dead, dead_less_here}
 use Rattle.walk.proofs.walk.Goals as goal

@@ -1,4 +1,4 @@
-use Rattle.std.proofs.Common.{◌≡◌, ◌+◌, cond, [], take, drop, Some, sym, ap, ◌∙◌, arith, below_more}
+use Rattle.std.proofs.Common.{◌+◌, cond, [], take, drop, Some, sym, ap, ◌∙◌, arith, below_more}
 use Rattle.std.proofs.lemmas.List.{at_drop_all}
 use Rattle.entries.specs.Tests.{first_wrong}
 use Rattle.entries.proofs.Events.{wrong_step, right_most}

@@ -1,4 +1,4 @@
-use Rattle.std.proofs.Common.{◌≡◌, ◌-◌, None, sym, ap, ◌∙◌, subst}
+use Rattle.std.proofs.Common.{◌≡◌, None, sym, ap, ◌∙◌, subst}
 use Rattle.calls.specs.Calls.{unless_refused}
 use Rattle.calls.specs.Replies.{reply}
 use Rattle.plan.specs.Contents.{fresh, fresh_of, make_refusal}

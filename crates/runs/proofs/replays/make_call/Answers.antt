@@ -1,6 +1,6 @@
 use Rattle.std.proofs.Common.{length, refl, ap, ◌∙◌}
 use Rattle.bank.specs.Calls.{meant}
-use Rattle.calls.specs.Calls.{allow, open_level, shut_level, left, find}
+use Rattle.calls.specs.Calls.{allow, open_level, shut_level}
 use Rattle.plan.specs.Contents.{allowing, opening, shutting}
 use Rattle.runs.specs.declared.requests.Action.TheVariants.{Allow, Open, Shut, Left, Find}
 use Rattle.runs.specs.Requests.{of_change, of_left, of_find}

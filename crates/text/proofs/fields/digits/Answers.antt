@@ -1,6 +1,6 @@
-use Rattle.std.proofs.Common.{◌≡◌, ◌<◌, ◌≤◌, true, cond, ◌&&◌, leb, length, drop, sym, refl, ap, ◌∙◌, arith, le-leb, false-eqb}
+use Rattle.std.proofs.Common.{sym, refl, ◌∙◌}
 use Rattle.std.proofs.lemmas.List.{at_drop_all}
-use Rattle.text.specs.Fields.{digits, number}
+use Rattle.text.specs.Fields.{digits}
 use Rattle.text.proofs.Numerals.{digits_more, digits_low, digits_high, next_power}
 use Rattle.text.proofs.fields.digits.Goals as goal
 use Rattle.text.proofs.fields.digits.Goals.{then-c-lt48-via-then-c-lt48, then-c-lt48-via-else-c-lt48+then-c-gt57}

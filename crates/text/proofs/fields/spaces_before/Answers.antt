@@ -1,4 +1,4 @@
-use Rattle.std.proofs.Common.{ap, arith, eq-eqb, ne_eqb}
+use Rattle.std.proofs.Common.{arith, eq-eqb, ne_eqb}
 use Rattle.std.proofs.lemmas.List.Sums.{prefix_len-drop_yes, prefix_len-drop_no, prefix_len-drop_all}
 use Rattle.text.specs.Fields.{space}
 use Rattle.text.proofs.fields.spaces_before.Goals as goal
