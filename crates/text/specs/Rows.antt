@@ -1,6 +1,6 @@
 -- The lines of a text that count, each with its place.
 use Rattle.std.specs.Prelude.{◌≡◌, ℕ, ◌+◌, Bool, true, false, cond, ◌&&◌, ◌||◌, List, [], ◌∷◌, length, take, drop, ◌==◌}
-use Rattle.std.specs.List.{AllByRecursion as All}
+use Rattle.std.specs.List.{AllByRecursion}
 use Rattle.text.specs.Pieces.{pieces, Division}
 use Rattle.text.specs.Fields.{space}
 
@@ -42,4 +42,4 @@ pub record Stands (text : List ℕ) (row : Row) : Type 0 where
 -- what is known of a text's lines: joined by bytes 10 they give the text, and each row stands in it
 pub record Lined (text : List ℕ) : Type 0 where
   pub division : Division 10 text
-  pub stand : All (Stands text) (rows text)
+  pub stand : AllByRecursion (Stands text) (rows text)
