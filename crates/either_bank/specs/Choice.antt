@@ -1,5 +1,5 @@
 -- One of two meanings.
-use Rattle.std.specs.Prelude.{Bool, true, false, ℕ, ◌%◌, eqb}
+use Rattle.std.specs.Prelude.{Bool, true, false, ℕ, ◌%◌, ◌==◌}
 use Rattle.relations.specs.Meaning.{Meaning}
 
 -- the second where v, and otherwise the first
@@ -12,5 +12,6 @@ pub of_chosen : (P : Meaning → Type 0) (v : Bool) (m n : Meaning) → P m → 
 of_chosen P true m n a b = b
 of_chosen P false m n a b = a
 
+-- whether n is odd
 abbrev pub odd : ℕ → Bool
-odd n = eqb (n % 2) 1
+odd n = n % 2 == 1
