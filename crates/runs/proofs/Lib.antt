@@ -3,3 +3,4 @@ pub mod Running
 pub mod Finding
 pub mod Holding
 pub mod Replaying
+pub mod Wiping

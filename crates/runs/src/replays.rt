@@ -73,6 +73,7 @@ fn run<B: Bank>(
 }
 
 // Sets the first 4,096 numbers to 0, where there are so many.
+#[tactic(auto, using(crate::proofs::Wiping::wiped_long))]
 fn wipe(workspace: &mut [u64])
     ensures { workspace.new ≡ wiped workspace.old }
 {

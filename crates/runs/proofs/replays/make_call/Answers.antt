@@ -1,8 +1,8 @@
 use Rattle.std.proofs.Common.{length, refl, ap, ◌∙◌}
 use Rattle.bank.specs.Calls.{meant}
-use Rattle.calls.specs.Calls.{allow, open_level, shut_level}
-use Rattle.plan.specs.Contents.{allowing, opening, shutting}
-use Rattle.runs.specs.declared.requests.Action.TheVariants.{Allow, Open, Shut, Left, Find}
+use Rattle.calls.specs.Calls.{allow}
+use Rattle.plan.specs.Contents.{allowing}
+use Rattle.runs.specs.declared.requests.Action.TheVariants.{Allow, Left, Find}
 use Rattle.runs.specs.Requests.{of_change, of_left, of_find}
 use Rattle.runs.proofs.Calling.{change_on, kept_period, kept_events, allowing_period, allowing_events, left_on, find_on, as_asked, lent_same, lent_by, left_long, find_long}
 use Rattle.runs.proofs.replays.make_call.Goals as goal
@@ -17,32 +17,6 @@ returns-in-Allow g c =
     record {
       on = as_asked p q m c.args.request.now.floor.now p.events (length c.args.workspace.now) c.args.request.now.action (Allow c.in-Allow.event c.in-Allow.set) x x c.of_change.result (of_change c.allow.result) c.in-Allow.is c.of_change.ensures
           (change_on p (allow c.in-Allow.event c.in-Allow.set) q x c.allow.result (ap (λ z. z.period) c.allow.ensures.plan ∙ kept_period _ p (allowing c.in-Allow.event c.in-Allow.set p) (allowing_period c.in-Allow.event c.in-Allow.set p)) (ap (λ z. z.events) c.allow.ensures.plan ∙ kept_events _ p (allowing c.in-Allow.event c.in-Allow.set p) (allowing_events c.in-Allow.event c.in-Allow.set p)) (λ l s e. (e, refl)) c.allow.ensures.list);
-      workspace = lent_same c.args.workspace.now;
-    }
-
-pub returns-in-Open : goal.returns-in-Open
-returns-in-Open g c =
-    let p = c.args.plan.now.contents in
-    let b = c.args.request.now.bank.now in
-    let m = meant (g.B.Bank.period b) (g.B.Bank.reach b) (g.B.Bank.relations b) in
-    let x = c.args.timetable.now in
-    let q = c.«open».new.self.contents in
-    record {
-      on = as_asked p q m c.args.request.now.floor.now p.events (length c.args.workspace.now) c.args.request.now.action (Open) x x c.of_change-in-Open.result (of_change c.«open».result) c.in-Open.is c.of_change-in-Open.ensures
-          (change_on p (open_level) q x c.«open».result (ap (λ z. z.period) c.«open».ensures.plan ∙ kept_period _ p (opening p) refl) (ap (λ z. z.events) c.«open».ensures.plan ∙ kept_events _ p (opening p) refl) (λ l s e. (e, refl)) c.«open».ensures.list);
-      workspace = lent_same c.args.workspace.now;
-    }
-
-pub returns-in-Shut : goal.returns-in-Shut
-returns-in-Shut g c =
-    let p = c.args.plan.now.contents in
-    let b = c.args.request.now.bank.now in
-    let m = meant (g.B.Bank.period b) (g.B.Bank.reach b) (g.B.Bank.relations b) in
-    let x = c.args.timetable.now in
-    let q = c.shut.new.self.contents in
-    record {
-      on = as_asked p q m c.args.request.now.floor.now p.events (length c.args.workspace.now) c.args.request.now.action (Shut) x x c.of_change-in-Shut.result (of_change c.shut.result) c.in-Shut.is c.of_change-in-Shut.ensures
-          (change_on p (shut_level) q x c.shut.result (ap (λ z. z.period) c.shut.ensures.plan ∙ kept_period _ p (shutting p) refl) (ap (λ z. z.events) c.shut.ensures.plan ∙ kept_events _ p (shutting p) refl) (λ l s e. (e, refl)) c.shut.ensures.list);
       workspace = lent_same c.args.workspace.now;
     }
 
