@@ -1,19 +1,11 @@
 -- What the calls of a bank answer, by its meaning.
-use Rattle.std.specs.Prelude.{◌≡◌, ℕ, Bool, true, false, cond, ◌&&◌, List, [], ◌∷◌, length, take, ◌≢◌, nat_le, nat_lt}
-use Rattle.relations.specs.Meaning.{Meaning, Relation, Laws, relation, size, Each, Deflates, Sound, Exact, Monotone, Silent, Confined}
+use Rattle.std.specs.Prelude.{◌≡◌, ℕ, Bool, true, false, cond, ◌&&◌, List, length, take, ◌≢◌, nat_le, nat_lt}
+use Rattle.std.specs.List.{list_all}
+use Rattle.relations.specs.Meaning.{Meaning, Relation, relation, size}
 
 -- the meaning of a bank with this period, reach and relations
 abbrev pub meant : ℕ → ℕ → List Relation → Meaning
 meant T reach relations = record { period = T; reach = reach; relations = relations }
-
--- the laws that a bank shows one by one, together
-abbrev pub lawful : (T reach : ℕ) (relations : List Relation)
-    → Each (Deflates reach) (meant T reach relations) → Each (Sound T reach) (meant T reach relations)
-    → Each (Exact T reach) (meant T reach relations) → Each (Monotone reach) (meant T reach relations)
-    → Each (Silent reach) (meant T reach relations) → Each (Confined reach) (meant T reach relations)
-    → Laws (meant T reach relations)
-lawful T reach relations d s e m q c =
-    record { deflation = d; soundness = s; exactness = e; monotony = m; silence = q; confinement = c }
 
 -- the limits: a number below the size and below 512, a list of reach to 256 places
 abbrev pub in_limits : ℕ → ℕ → ℕ → ℕ → Bool
@@ -21,8 +13,7 @@ in_limits size reach k n = nat_lt k size && (nat_lt k 512 && (nat_le reach n && 
 
 -- each minute is below T
 abbrev pub all_below : ℕ → List ℕ → Bool
-all_below T [] = true
-all_below T (m ∷ ms) = nat_lt m T && all_below T ms
+all_below T minutes = list_all (λ m. nat_lt m T) minutes
 
 -- what `holds` answers: within the limits, the minutes of events 1 to reach below the period, and the condition met
 abbrev pub answer : Meaning → ℕ → List ℕ → Bool

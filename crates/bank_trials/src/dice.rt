@@ -1,5 +1,8 @@
 //! Numbers that look random and are the same at every run.
 
+ghost use Rattle.std.specs.Prelude.{◌<◌};
+
+// No Iterator: the rolls have no end, so each use of one would unwrap an Option that is never None.
 #[derive(Drop)]
 pub struct Dice {
     state: u64,
@@ -20,7 +23,9 @@ impl Dice {
     }
 
     // A number from 0 to n - 1, or 0 where n is 0.
-    pub fn below(&mut self, n: u8) -> u8 {
+    pub fn below(&mut self, n: u8) -> u8
+        ensures { 0 < n → result < n }
+    {
         let rolled = self.roll();
         if n == 0 {
             return 0;

@@ -8,102 +8,85 @@ use pair::Pair;
 use refusals::Refusal;
 use waiver::Waiver;
 
-// Whether relation `k` of the two banks, eight relations each, holds where number `off` is waived.
-fn holds_of<A: Bank, B: Bank>(a: &A, b: &B, off: usize, k: usize, minutes: &[u8]) -> bool {
-    if k == off {
-        return true;
-    }
-    if k < 8 {
-        a.holds(k, minutes)
-    } else {
-        b.holds(k - 8, minutes)
-    }
+// Two banks of eight relations each, asked one by one, and which relation of the sixteen is waived.
+#[derive(Drop)]
+struct Apart<A, B> {
+    first: A,
+    second: B,
+    waived: Option<usize>,
 }
 
-// What relation `k` of the two banks narrows the family to, where number `off` is waived.
-fn narrowed_of<A: Bank, B: Bank>(a: &A, b: &B, off: usize, k: usize, before: [u64; 6]) -> [u64; 6] {
-    let mut family = before;
-    if k == off {
-        return family;
-    }
-    let _ = if k < 8 {
-        a.narrow(k, &mut family)
-    } else {
-        b.narrow(k - 8, &mut family)
-    };
-    family
-}
-
-// The lowest relation that does not hold.
-fn lowest_of<A: Bank, B: Bank>(a: &A, b: &B, off: usize, minutes: &[u8]) -> Option<usize> {
-    for k in 0..16usize {
-        if !holds_of(a, b, off, k, minutes) {
-            return Some(k);
+impl<A: Bank, B: Bank> Apart<A, B> {
+    // Whether relation `k` holds.
+    fn holds(&self, k: usize, minutes: &[u8]) -> bool {
+        match k {
+            _ if self.waived == Some(k) => true,
+            0..8 => self.first.holds(k, minutes),
+            8..16 => self.second.holds(k - 8, minutes),
+            _ => false,
         }
     }
-    None
-}
 
-// Whether check says what it should of minutes that are below the period or not.
-fn check_is(said: Result<Option<usize>, Refusal>, valid: bool, lowest: Option<usize>) -> bool {
-    match said {
-        Ok(found) => valid && found == lowest,
-        Err(Refusal::Range) => !valid,
-        Err(_) => false,
-    }
-}
-
-// Each relation of both banks as one bank, where number `off` is waived, on one family and one list of minutes.
-fn relations_once<A: Bank, B: Bank, J: Bank>(
-    all: &J,
-    a: &A,
-    b: &B,
-    off: usize,
-    valid: bool,
-    family: [u64; 6],
-    minutes: &[u8],
-    tally: &mut Tally,
-) {
-    for k in 0..18usize {
-        let after = if k < 16 {
-            narrowed_of(a, b, off, k, family)
-        } else {
-            family
+    // What relation `k` narrows the family to.
+    fn narrowed(&self, k: usize, before: [u64; 6]) -> [u64; 6] {
+        let mut family = before;
+        let _ = match k {
+            _ if self.waived == Some(k) => false,
+            0..8 => self.first.narrow(k, &mut family),
+            8..16 => self.second.narrow(k - 8, &mut family),
+            _ => false,
         };
-        tally.note(narrows_to(all, k, family, after));
-        let held = k < 16 && holds_of(a, b, off, k, minutes);
-        tally.note(all.holds(k, minutes) == (valid && held));
+        family
+    }
+
+    // What check should say of minutes that are below the period or not.
+    fn checked(&self, valid: bool, minutes: &[u8]) -> Result<Option<usize>, Refusal> {
+        if !valid {
+            return Err(Refusal::Range);
+        }
+        Ok((0..16).find(|k| !self.holds(*k, minutes)))
+    }
+
+    // Each relation of the two as one bank, and two numbers that none has, on one family and one list of minutes.
+    fn try_each<J: Bank>(
+        &self,
+        all: &J,
+        // whether the minutes are below the period: a bank answers no where they are not
+        valid: bool,
+        family: [u64; 6],
+        minutes: &[u8],
+        tally: &mut Tally,
+    ) {
+        for k in 0..18 {
+            tally.note(narrows_to(all, k, family, self.narrowed(k, family)));
+            tally.note(all.holds(k, minutes) == (valid && self.holds(k, minutes)));
+        }
     }
 }
 
 // The pair of two banks of eight relations each under a waiver of one of them.
 pub fn joined_once<A: Bank + Copy, B: Bank + Copy>(
-    a: A,
-    b: B,
-    period: u8,
+    first: A,
+    second: B,
     dice: &mut Dice,
     tally: &mut Tally,
 ) {
-    let mut all = Waiver::new(Pair {
-        first: a,
-        second: b,
-    });
-    let off = dice.below(16) as usize;
+    let period = first.period();
+    let mut all = Waiver::new(Pair { first, second });
+    let off = usize::from(dice.below(16));
     tally.note(all.waive(off).is_ok());
     tally.note(all.waive(512).is_err());
-    let family = made::family(dice, true);
+    let family = made::family(dice, 4);
     let minutes = made::minutes(dice, period);
     let valid = below(&minutes, all.reach(), period);
-    relations_once(&all, &a, &b, off, valid, family, &minutes, tally);
-    tally.note(check_is(
-        check(&all, &minutes),
-        valid,
-        lowest_of(&a, &b, off, &minutes),
-    ));
+    let mut apart = Apart {
+        first,
+        second,
+        waived: Some(off),
+    };
+    apart.try_each(&all, valid, family, &minutes, tally);
+    tally.note(check(&all, &minutes) == apart.checked(valid, &minutes));
     tally.note(all.reinstate(off).is_ok());
-    tally.note(check_is(
-        check(&all, &minutes),
-        valid,
-        lowest_of(&a, &b, 16, &minutes),
-    ));
+    apart.waived = None;
+    tally.note(check(&all, &minutes) == apart.checked(valid, &minutes));
 }

@@ -3,12 +3,12 @@
 
 use crate::dice::Dice;
 use crate::trial::Tally;
-use bank::Bank;
 use reading::readings::ClosedReading;
 use records::{Journey, Span};
-use std::io;
-use table_banks::journey_bank::JourneyBank;
-use table_banks::span_bank::SpanBank;
+use refusals::Refusal;
+use std::alloc::{AllocError, Global};
+use std::{fmt, io};
+use table_banks::{JourneyBank, SpanBank};
 
 mod dice;
 mod joined;
@@ -21,51 +21,35 @@ const TABLES: usize = 10;
 
 const ROUNDS: usize = 10;
 
-// An instance of six events with eight spans and eight journeys, which the trials replace by others.
-macro_rules! instance {
-    ($heading:literal) => {
-        concat!(
-            $heading,
-            "1;1;2;0;0;0\n1;1;2;0;0;0\n1;1;2;0;0;0\n1;1;2;0;0;0\n1;1;2;0;0;0\n1;1;2;0;0;0\n1;1;2;0;0;0\n1;1;2;0;0;0\n",
-            "J;1;0;1;2\nJ;1;0;1;2\nJ;1;0;1;2\nJ;1;0;1;2\nJ;1;0;1;2\nJ;1;0;1;2\nJ;1;0;1;2\nJ;1;0;1;2\n"
-        )
-    };
-}
-
-fn instance_at(period: u8) -> &'static str {
-    match period {
-        2 => instance!("T;2;6\n"),
-        3 => instance!("T;3;6\n"),
-        10 => instance!("T;10;6\n"),
-        59 => instance!("T;59;6\n"),
-        60 => instance!("T;60;6\n"),
-        63 => instance!("T;63;6\n"),
-        _ => instance!("T;64;6\n"),
-    }
-}
-
 // What was compared: answers of spans, of journeys, and of both joined, waived and checked.
-#[derive(Clone, Copy)]
+#[derive(Clone, Copy, Default)]
 struct Tallies {
     spans: Tally,
     journeys: Tally,
     both: Tally,
 }
 
-// Rounds with these banks over these tables.
-fn rounds(
-    spans: SpanBank,
-    journeys: JourneyBank,
-    s: &[Span; 8],
-    j: &[Journey; 8],
-    dice: &mut Dice,
-    tallies: &mut Tallies,
-) {
-    let period = spans.period();
-    for _ in 0..ROUNDS {
-        trial::spans_once(&spans, s, period, dice, &mut tallies.spans);
-        trial::journeys_once(&journeys, j, period, dice, &mut tallies.journeys);
-        joined::joined_once(spans, journeys, period, dice, &mut tallies.both);
+impl fmt::Display for Tallies {
+    fn fmt<W: fmt::Write>(&self, f: &mut fmt::Formatter<W>) -> fmt::Result {
+        let Tallies {
+            spans,
+            journeys,
+            both,
+        } = *self;
+        let wrong = [spans, journeys, both]
+            .iter()
+            .map(|t| t.wrong)
+            .fold(0, u32::saturating_add);
+        write!(
+            f,
+            "{} answers of spans, {} of journeys, ",
+            spans.compared, journeys.compared
+        )?;
+        write!(
+            f,
+            "{} of both joined, waived and checked: {wrong} disagreements",
+            both.compared
+        )
     }
 }
 
@@ -76,52 +60,43 @@ fn trials_with(
     j: &[Journey; 8],
     dice: &mut Dice,
     tallies: &mut Tallies,
-) {
+) -> Result<(), Refusal> {
     let mut spans = SpanBank::blank();
+    spans.fill(reading, s)?;
     let mut journeys = JourneyBank::blank();
-    if spans.fill(reading, s).is_err() || journeys.fill(reading, j).is_err() {
-        return;
+    journeys.fill(reading, j)?;
+    for _ in 0..ROUNDS {
+        trial::records_once(&spans, s, 2, dice, &mut tallies.spans);
+        trial::records_once(&journeys, j, 4, dice, &mut tallies.journeys);
+        joined::joined_once(spans, journeys, dice, &mut tallies.both);
     }
-    rounds(spans, journeys, s, j, dice, tallies);
+    Ok(())
 }
 
 // What was compared at a period.
-fn trials_at(period: u8) -> Tallies {
-    let mut dice = Dice::new(period as u64);
-    let mut tallies = Tallies {
-        spans: Tally::new(),
-        journeys: Tally::new(),
-        both: Tally::new(),
-    };
+fn trials_at(heap: Global, period: u8) -> Result<Tallies, AllocError> {
+    let mut dice = Dice::new(u64::from(period));
+    let mut tallies = Tallies::default();
+    // eight spans and eight journeys, which the trials replace by others
+    let spans = "1;1;2;0;0;0\n".repeat(heap, 8)?;
+    let journeys = "J;1;0;1;2\n".repeat(heap, 8)?;
+    let text = format!(in heap; "T;{period};6\n{spans}{journeys}")?;
     let mut s = [Span::BLANK; 8];
     let mut j = [Journey::BLANK; 8];
-    let Ok(reading) = ClosedReading::read(instance_at(period).as_bytes(), &mut s, &mut j) else {
-        return tallies;
+    let Ok(reading) = ClosedReading::read(text.as_bytes(), &mut s, &mut j) else {
+        return Ok(tallies);
     };
     for _ in 0..TABLES {
         let spans = made::spans(&mut dice, period);
         let journeys = made::journeys(&mut dice);
-        trials_with(&reading, &spans, &journeys, &mut dice, &mut tallies);
+        let _ = trials_with(&reading, &spans, &journeys, &mut dice, &mut tallies);
     }
-    tallies
+    Ok(tallies)
 }
 
 fn main(rt: HostRuntime) -> io::Result<()> {
-    for period in [2u8, 3, 10, 59, 60, 63, 64] {
-        let of = trials_at(period);
-        let wrong = of
-            .spans
-            .wrong
-            .saturating_add(of.journeys.wrong)
-            .saturating_add(of.both.wrong);
-        print!(rt;
-            "period {period}: {} answers of spans, {} of journeys, ",
-            of.spans.compared, of.journeys.compared
-        )?;
-        println!(rt;
-            "{} of both joined, waived and checked: {wrong} disagreements",
-            of.both.compared
-        )?;
+    for period in [2, 3, 10, 59, 60, 63, 64] {
+        println!(rt; "period {period}: {}", trials_at(rt.alloc(), period)?)?;
     }
     Ok(())
 }

@@ -5,12 +5,10 @@ ghost use Rattle.calls.specs.Laws.{LedgersRight, FamilyRight, ShutRestores, Eith
 
 // What lists of calls decide, in words: `ledger` lists the allows that were accepted and that no later shut took back,
 // and the open levels; the allowed family is by those allows; and the laws of levels and allows.
-pub fn laws_of_calls() -> u8
+pub fn laws_of_calls()
     ensures ledger { LedgersRight }
     ensures family { FamilyRight }
     ensures shut { ShutRestores }
     ensures order { EitherOrder }
     ensures again { AllowAgain }
-{
-    0
-}
+{}

@@ -1,7 +1,7 @@
 -- Steps of check.
-use Rattle.std.proofs.Common.{◌≡◌, ℕ, zero, suc, ◌+◌, ◌-◌, ◌<◌, ◌≤◌, min, Bool, true, false, cond, ◌&&◌, leb, List, [], ◌∷◌, length, get_or, take, drop, Some, None, Ok, Err, Option, Result, sym, refl, ap, ◌∙◌, subst, inl, inr, arith}
+use Rattle.std.proofs.Common.{◌≡◌, ℕ, zero, suc, ◌+◌, ◌-◌, ◌<◌, ◌≤◌, min, Bool, true, false, cond, ◌&&◌, leb, List, [], ◌∷◌, length, get_or, take, Some, None, Ok, Err, Option, MatchOption, Result, sym, refl, ap, ◌∙◌, subst, inl, inr, arith}
 use Rattle.std.proofs.lemmas.Bool.{cases_lt, cases_Bool, le-leb, lt-leb, leb-true, and_parts, cond-true, cond-false}
-use Rattle.std.proofs.lemmas.List.{drop_more, drop_all, length-take, take-take}
+use Rattle.std.proofs.lemmas.List.{length-take, take-take}
 use Rattle.relations.specs.Meaning.{Meaning, Relation, relation, size, idle}
 use Rattle.bank.specs.Calls.{all_below, answer}
 use Rattle.bank.proofs.Answering.{limits_from, answer_inside}
@@ -15,15 +15,6 @@ capped s c = elim (cases_lt c s) [
   | inr h ↦ le-leb _ _ (omega arith) ∙ sym (le-leb s c h)
 ]
 
-pub lowest_stop : (rs : List Relation) (k : ℕ) (y : List ℕ) → k < length rs → (get_or rs k idle).condition y ≡ false → lowest (drop k rs) k y ≡ lowest rs 0 y → Some k ≡ lowest rs 0 y
-lowest_stop rs k y h c e = sym (cond-false _ _ _ c) ∙ sym (ap (λ l. lowest l k y) (drop_more rs k idle h)) ∙ e
-
-pub lowest_next : (rs : List Relation) (k : ℕ) (y : List ℕ) → k < length rs → (get_or rs k idle).condition y ≡ true → lowest (drop k rs) k y ≡ lowest rs 0 y → lowest (drop (k + 1) rs) (k + 1) y ≡ lowest rs 0 y
-lowest_next rs k y h c e = let q : k + 1 ≡ suc k = omega arith in ap (λ j. lowest (drop (k + 1) rs) j y) q ∙ sym (cond-true _ _ _ c) ∙ sym (ap (λ l. lowest l k y) (drop_more rs k idle h)) ∙ e
-
-pub lowest_end : (rs : List Relation) (k : ℕ) (y : List ℕ) → length rs ≤ k → lowest (drop k rs) k y ≡ lowest rs 0 y → None ≡ lowest rs 0 y
-lowest_end rs k y h e = sym (ap (λ l. lowest l k y) (drop_all k rs h)) ∙ e
-
 module _ (m : Meaning) (x : List ℕ) (n p r : ℕ) (hn : n ≡ min (size m) 513) (hp : p ≡ m.period) (hr : r ≡ min m.reach 257) where
   fits : (b : Bool) → (leb n 512 && (leb 2 p && (leb p 64 && leb r 256))) ≡ b → fit m ≡ b
   fits b h =
@@ -31,9 +22,6 @@ module _ (m : Meaning) (x : List ℕ) (n p r : ℕ) (hn : n ≡ min (size m) 513
       ∙ ap (λ z. leb n 512 && (leb 2 z && (leb z 64 && leb m.reach 256))) (sym hp)
       ∙ ap (λ z. leb n 512 && (leb 2 p && (leb p 64 && z))) (sym (ap (λ z. leb z 256) hr ∙ capped m.reach 256))
       ∙ h
-
-  pub refused_bank : (leb n 512 && (leb 2 p && (leb p 64 && leb r 256))) ≡ false → Err Bank ≡ checked m x
-  refused_bank h = sym (cond-false _ _ _ (fits false h))
 
   module _ (h : (leb n 512 && (leb 2 p && (leb p 64 && leb r 256))) ≡ true) where
     pub size_is : n ≡ size m
@@ -49,12 +37,6 @@ module _ (m : Meaning) (x : List ℕ) (n p r : ℕ) (hn : n ≡ min (size m) 513
     step_one = cond-true _ _ _ (fits true h)
         ∙ ap (λ z. cond (leb z (length x)) (cond (all_below m.period (take z x)) (Ok (lowest m.relations 0 (take z x))) (Err Range)) (Err Short)) (sym reach_is)
         ∙ ap (λ z. cond (leb r (length x)) (cond (all_below z (take r x)) (Ok (lowest m.relations 0 (take r x))) (Err Range)) (Err Short)) (sym hp)
-
-    pub refused_short : length x < r → Err Short ≡ checked m x
-    refused_short l = sym (step_one ∙ cond-false _ _ _ (lt-leb r (length x) l))
-
-    pub refused_range : r ≤ length x → all_below p (take r x) ≡ false → Err Range ≡ checked m x
-    refused_range l a = sym (step_one ∙ cond-true _ _ _ (le-leb r (length x) l) ∙ cond-false _ _ _ a)
 
     pub answered : (o : Option ℕ) → r ≤ length x → all_below p (take r x) ≡ true → o ≡ lowest m.relations 0 (take r x) → Ok o ≡ checked m x
     answered o l a e = ap Ok e ∙ sym (step_one ∙ cond-true _ _ _ (le-leb r (length x) l) ∙ cond-true _ _ _ a)
@@ -151,3 +133,24 @@ checked_found m x o e = elim (cases_Bool (fit m)) [
     ]
   ]
 ]
+
+lowest_is : (rs : List Relation) (j : ℕ) (y : List ℕ) (i : ℕ) → i < length rs → (get_or rs i idle).condition y ≡ false →
+    ((k : ℕ) → k < i → (get_or rs k idle).condition y ≡ true) → lowest rs j y ≡ Some (i + j)
+lowest_is [] j y i l c h = absurd (omega arith)
+lowest_is (r ∷ rs) j y zero l c h = let e : j ≡ 0 + j = omega arith in cond-false _ _ _ c ∙ ap Some e
+lowest_is (r ∷ rs) j y (suc i) l c h =
+    let e : i + suc j ≡ suc i + j = omega arith in
+    cond-true _ _ _ (h 0 (omega arith)) ∙ lowest_is rs (suc j) y i (omega arith) c (λ k q. h (suc k) (omega arith)) ∙ ap Some e
+
+-- the lowest, by what a search through the numbers below n has found, where `a` answers by the condition
+pub lowest_from : (rs : List Relation) (y : List ℕ) (a : ℕ → Bool) (n : ℕ) → n ≡ length rs →
+    ((k : ℕ) → k < n → a k ≡ (get_or rs k idle).condition y) → (r : Option ℕ) →
+    MatchOption r ((k : ℕ) → 0 ≤ k → k < n → a k ≡ true)
+    (λ i. (0 ≤ i) × (i < n) × (a i ≡ false) × ((k : ℕ) → 0 ≤ k → k < i → a k ≡ true)) →
+    r ≡ lowest rs 0 y
+lowest_from rs y a n e h None d =
+    sym (lowest_every rs 0 y (λ k l. let q : k < n = omega (arith, e) in sym (h k q) ∙ d k (omega arith) q))
+lowest_from rs y a n e h (Some i) d =
+    let z : i + 0 ≡ i = omega arith in
+    sym (lowest_is rs 0 y i (omega (arith, e, d.1)) (sym (h i d.1) ∙ d.2)
+    (λ k l. sym (h k (omega (arith, d.1))) ∙ d.3 k (omega arith) l) ∙ ap Some z)

@@ -1,16 +1,19 @@
 //! Banks by number, so that one list of calls may bring several.
-ghost use Rattle.std.specs.Prelude.{◌≡◌, ℕ, ◌/◌};
+ghost use Rattle.std.specs.Prelude.{◌≡◌, ℕ, ◌/◌, if◌then◌else◌};
 ghost use Rattle.either_bank.specs.Choice.{odd};
+ghost use Rattle.either_bank.specs.declared.Either.TheVariants.{First, Second};
 
 use crate::Either;
 use bank::Bank;
 
-// A bank that stands for several of its type: every number is that of one of them.
-pub trait Banks: Bank {
-    ghost numbered: { Self → ℕ → Self };
+// Banks of one type, by number: every number is that of one of them.
+pub trait Banks {
+    type One: Bank;
+
+    ghost numbered: { Self → ℕ → Self.One };
 
     // Bank number `n`.
-    fn numbered(&self, n: usize) -> Self
+    fn numbered(&self, n: usize) -> Self::One
         ensures { result ≡ numbered self.now n };
 }
 
@@ -20,63 +23,33 @@ pub struct One<B> {
     pub bank: B,
 }
 
-impl<B: Bank> Bank for One<B> {
-    ghost period = { λ s. B.period s.bank };
-
-    ghost reach = { λ s. B.reach s.bank };
-
-    ghost relations = { λ s. B.relations s.bank };
-
-    ghost deflation = { λ s. B.deflation s.bank };
-
-    ghost soundness = { λ s. B.soundness s.bank };
-
-    ghost exactness = { λ s. B.exactness s.bank };
-
-    ghost monotony = { λ s. B.monotony s.bank };
-
-    ghost silence = { λ s. B.silence s.bank };
-
-    ghost confinement = { λ s. B.confinement s.bank };
-
-    fn period(&self) -> u8 {
-        self.bank.period()
-    }
-
-    fn size(&self) -> usize {
-        self.bank.size()
-    }
-
-    fn reach(&self) -> usize {
-        self.bank.reach()
-    }
-
-    fn holds(&self, k: usize, minutes: &[u8]) -> bool {
-        self.bank.holds(k, minutes)
-    }
-
-    fn narrow(&self, k: usize, family: &mut [u64]) -> bool {
-        self.bank.narrow(k, family)
-    }
+// The even numbers are those of the first, the odd ones those of the second, each by half the number.
+#[derive(Clone, Copy, Drop)]
+pub struct Both<A, B> {
+    pub first: A,
+    pub second: B,
 }
 
 impl<B: Bank + Copy> Banks for One<B> {
-    ghost numbered = { λ s _. s };
+    type One = B;
 
-    fn numbered(&self, _n: usize) -> One<B> {
-        *self
+    ghost numbered = { λ s _. s.bank };
+
+    fn numbered(&self, _n: usize) -> B {
+        self.bank
     }
 }
 
-// The even numbers are those of the first, the odd ones those of the second, each by half the number.
-impl<A: Banks, B: Banks> Banks for Either<A, B> {
-    ghost numbered = { λ s n. record { first = A.numbered s.first (n / 2); second = B.numbered s.second (n / 2); second_counts = odd n } };
+impl<A: Banks, B: Banks> Banks for Both<A, B> {
+    type One = Either<A::One, B::One>;
 
-    fn numbered(&self, n: usize) -> Either<A, B> {
-        Either {
-            first: self.first.numbered(n / 2),
-            second: self.second.numbered(n / 2),
-            second_counts: n % 2 == 1,
+    ghost numbered = { λ s n. if odd n then Second (B.numbered s.second (n / 2)) else First (A.numbered s.first (n / 2)) };
+
+    fn numbered(&self, n: usize) -> Either<A::One, B::One> {
+        if n % 2 == 1 {
+            Either::Second(self.second.numbered(n / 2))
+        } else {
+            Either::First(self.first.numbered(n / 2))
         }
     }
 }

@@ -1,4 +1,3 @@
 pub mod Events
-pub mod Forming
 pub mod Judging
 pub mod Noting

@@ -1,8 +1,8 @@
 -- One field more of a line is noted.
-use Rattle.std.proofs.Common.{◌≡◌, ℕ, suc, ◌+◌, ◌<◌, ◌≤◌, true, false, ◌⊎◌, List, [], ◌∷◌, ◌++◌, map, length, get_or, set, replicate, is_some, Some, None, Option, sym, refl, ap, ◌∙◌, subst, inl, inr, arith, length-append, length-set, get_or-set_other, get_or-set_same}
+use Rattle.std.proofs.Common.{◌≡◌, ℕ, suc, ◌+◌, ◌<◌, ◌≤◌, ◌⊎◌, List, [], ◌∷◌, ◌++◌, map, length, get_or, set, Some, None, Option, sym, refl, ap, ◌∙◌, subst, inl, inr, arith, length-append, length-set, get_or-set_other, get_or-set_same}
 use mathlib.Core.List.{map-append}
-use lib.ListN.{get_or-replicate}
-use Rattle.std.proofs.lemmas.List.{length-map, get_or_append_left, get_or_push, get_or_past}
+use Rattle.std.specs.Option.{option_or}
+use Rattle.std.proofs.lemmas.List.{get_or_append_left, get_or_push, get_or_past}
 use Rattle.std.proofs.lemmas.Bool.{cases_order}
 use Rattle.text.specs.Fields.{number, trimmed}
 use Rattle.entries.specs.declared.numerals.Numerals.{Numerals}
@@ -16,15 +16,10 @@ no_number_some i (None ∷ vs) v = refl
 no_number_some i (Some w ∷ vs) v = no_number_some (suc i) vs v
 
 -- what is no number is the first such field, unless one stands before it
-no_number_before : (i : ℕ) (vs : List (Option ℕ)) → is_some (no_number i vs) ≡ true → no_number i (vs ++ None ∷ []) ≡ no_number i vs
-no_number_before i [] e = let z : ◌≡◌ {A = ℕ} 0 1 = cc in absurd (omega arith)
-no_number_before i (None ∷ vs) e = refl
-no_number_before i (Some w ∷ vs) e = no_number_before (suc i) vs e
-
-no_number_here : (i : ℕ) (vs : List (Option ℕ)) → is_some (no_number i vs) ≡ false → no_number i (vs ++ None ∷ []) ≡ Some (i + length vs)
-no_number_here i [] e = ap Some (omega arith)
-no_number_here i (None ∷ vs) e = let z : ◌≡◌ {A = ℕ} 0 1 = cc in absurd (omega arith)
-no_number_here i (Some w ∷ vs) e = no_number_here (suc i) vs e ∙ ap Some (omega arith)
+no_number_none : (i : ℕ) (vs : List (Option ℕ)) → no_number i (vs ++ None ∷ []) ≡ option_or (no_number i vs) (Some (i + length vs))
+no_number_none i [] = ap Some (omega arith)
+no_number_none i (None ∷ vs) = refl
+no_number_none i (Some w ∷ vs) = no_number_none (suc i) vs ∙ ap (λ k. option_or (no_number (suc i) vs) (Some k)) (omega arith)
 
 module _ (vs : List (Option ℕ)) (v : Option ℕ) where
   before : (j : ℕ) → j < length vs → value_at (vs ++ v ∷ []) j ≡ value_at vs j
@@ -36,7 +31,7 @@ module _ (vs : List (Option ℕ)) (v : Option ℕ) where
   beyond : (j : ℕ) → length vs < j → value_at (vs ++ v ∷ []) j ≡ 0
   beyond j h = ap value_or_zero (get_or_past (vs ++ v ∷ []) j None (simp length-append (omega arith)))
 
-pub past : (vs : List (Option ℕ)) (j : ℕ) → length vs ≤ j → value_at vs j ≡ 0
+past : (vs : List (Option ℕ)) (j : ℕ) → length vs ≤ j → value_at vs j ≡ 0
 past vs j h = ap value_or_zero (get_or_past vs j None h)
 
 -- a value that is 0, or comes after the eighth, is noted by the count alone
@@ -61,7 +56,7 @@ module _ (i : ℕ) (vs : List (Option ℕ)) (n : Numerals) (noted : Noted i vs n
   one_more : (v : Option ℕ) → n.count + 1 ≡ length (vs ++ v ∷ [])
   one_more v = simp length-append (omega (arith, noted.count))
 
-  -- the eighth number or one before it, and one after that
+  -- the eighth number or one before it, one after that, and a field that is no number
   pub noted_at : (v : ℕ) → n.count < 8 → Noted i (vs ++ Some v ∷ []) (record { count = n.count + 1; bad = n.bad; values = set n.values n.count v })
   noted_at v h = record {
     count = one_more (Some v);
@@ -78,30 +73,13 @@ module _ (i : ℕ) (vs : List (Option ℕ)) (n : Numerals) (noted : Noted i vs n
     nth = λ j l. noted.nth j l ∙ same_values vs (Some v) (inr (omega (arith, noted.count))) j l;
   }
 
-  -- the first field that is no number, and a later one
-  pub noted_bad : (field : ℕ) → is_some n.bad ≡ false → field ≡ i + length vs → Noted i (vs ++ None ∷ []) (record { count = n.count + 1; bad = Some field; values = n.values })
-  noted_bad field e f = record {
+  pub noted_bad : (field : ℕ) → field ≡ i + length vs → Noted i (vs ++ None ∷ []) (record { count = n.count + 1; bad = option_or n.bad (Some field); values = n.values })
+  noted_bad field f = record {
     count = one_more None;
-    bad = ap Some f ∙ sym (no_number_here i vs (ap is_some (sym noted.bad) ∙ e));
+    bad = (λ k. option_or (noted.bad k) (Some (f k))) ∙ sym (no_number_none i vs);
     long = noted.long;
     nth = λ j l. noted.nth j l ∙ same_values vs None (inl refl) j l;
   }
-
-  pub noted_again : is_some n.bad ≡ true → Noted i (vs ++ None ∷ []) (record { count = n.count + 1; bad = n.bad; values = n.values })
-  noted_again e = record {
-    count = one_more None;
-    bad = noted.bad ∙ sym (no_number_before i vs (ap is_some (sym noted.bad) ∙ e));
-    long = noted.long;
-    nth = λ j l. noted.nth j l ∙ same_values vs None (inl refl) j l;
-  }
-
--- no field yet
-pub noted_none : (i : ℕ) → Noted i [] (record { count = 0; bad = None; values = replicate 8 0 })
-noted_none i = record { count = refl; bad = refl; long = refl; nth = λ j h. get_or-replicate 8 j 0 0 h }
-
--- as many numbers as fields are noted
-pub noted_length : (i : ℕ) (fs : List (List ℕ)) (n : Numerals) → Noted i (map number (map trimmed fs)) n → n.count ≡ length fs
-noted_length i fs n h = h.count ∙ length-map (map trimmed fs) number ∙ length-map fs trimmed
 
 -- a field behind others
 pub noted_field : (i : ℕ) (fs : List (List ℕ)) (f : List ℕ) (v : Option ℕ) (n : Numerals) → v ≡ number (trimmed f) →

@@ -1,5 +1,6 @@
 -- The tests of a well formed line: which field, if any, is at fault.
-use Rattle.std.specs.Prelude.{ℕ, suc, ◌+◌, Bool, false, cond, not, ◌&&◌, ◌||◌, List, [], ◌∷◌, ◌++◌, map, drop, Some, None, Option, ◌==◌, nat_le, nat_lt}
+use Rattle.std.specs.Prelude.{ℕ, suc, ◌+◌, Bool, cond, not, ◌&&◌, List, [], ◌∷◌, ◌++◌, map, drop, Some, None, Option, ◌==◌, nat_le, nat_lt}
+use Rattle.std.specs.List.{list_any}
 use Rattle.text.specs.declared.kind.Kind.{Kind}
 use Rattle.text.specs.declared.kind.Kind.TheVariants.{Heading, Span, Journey}
 use Rattle.entries.specs.Form.{values, nth, value_or_zero}
@@ -35,8 +36,7 @@ range_fault Journey T line = journey_range (nth line 0) (nth line 1)
 
 -- e is one of the events
 abbrev pub named : ℕ → List ℕ → Bool
-named e [] = false
-named e (d ∷ ds) = e == d || named e ds
+named e es = list_any (λ d. d == e) es
 
 -- the first event, the list beginning with field i, that is 0, above E, or stands among those before it
 abbrev pub first_wrong : ℕ → List ℕ → ℕ → List ℕ → Option ℕ

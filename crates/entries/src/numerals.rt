@@ -1,7 +1,7 @@
 //! The numbers of a line.
-ghost use Rattle.std.specs.Prelude.{◌≡◌, ℕ, ◌+◌, ◌^◌, ◌<◌, ◌≤◌, List, [], ◌∷◌, ◌++◌, map, length, Some, None, Option};
+ghost use Rattle.std.specs.Prelude.{◌≡◌, ℕ, ◌+◌, ◌^◌, ◌<◌, ◌≤◌, List, [], ◌∷◌, ◌++◌, map, length, Option};
 ghost use Rattle.text.specs.Fields.{number as number_of, trimmed, fields as fields_of};
-ghost use Rattle.text.specs.Cursor.{pieces_left, bytes_left};
+ghost use Rattle.text.specs.Cursor.{pieces_left};
 ghost use Rattle.entries.specs.Form.{numerals as numerals_of, first_numeral};
 ghost use Rattle.entries.specs.Noted.{Noted};
 
@@ -13,7 +13,7 @@ use text::pieces::Pieces;
 const NUMBERS_MOST: usize = 8;
 
 // What a line's fields write, the letter left out: how many they are, which is the first that is no number, and the
-// first eight numbers, 0 where there is none.
+// first eight numbers, 0 where there is none. The count goes on past the eight, and nothing is on the heap.
 #[derive(Clone, Copy)]
 pub struct Numerals {
     pub count: usize,
@@ -28,40 +28,17 @@ impl Numerals {
         ensures { (i : ℕ) (vs : List (Option ℕ)) → Noted i vs self.old → field ≡ i + length vs → Noted i (vs ++ value ∷ []) self.new }
     {
         match value {
-            Some(v) => self.keep(v),
-            None => self.blame(field),
+            Some(value) if self.count < NUMBERS_MOST => self.values[self.count] = value,
+            Some(_) => {}
+            None => self.bad = self.bad.or(Some(field)),
         }
-    }
-
-    // One number more.
-    fn keep(&mut self, value: u32)
-        requires { self.old.count + 1 < 2 ^ 64 }
-        ensures { (i : ℕ) (vs : List (Option ℕ)) → Noted i vs self.old → Noted i (vs ++ Some value ∷ []) self.new }
-    {
-        let at = self.count;
-        self.count = at + 1;
-        if at < NUMBERS_MOST {
-            self.values[at] = value;
-            return;
-        }
-    }
-
-    // One field more that is no number.
-    fn blame(&mut self, field: usize)
-        requires { self.old.count + 1 < 2 ^ 64 }
-        ensures { (i : ℕ) (vs : List (Option ℕ)) → Noted i vs self.old → field ≡ i + length vs → Noted i (vs ++ None ∷ []) self.new }
-    {
         self.count += 1;
-        if self.bad.is_none() {
-            self.bad = Some(field);
-            return;
-        }
     }
 }
 
 // The numbers of the pieces, of which the first is field `first` of its line.
-fn numerals_of(mut pieces: Pieces, first: usize) -> Numerals
-    requires { (first ≤ 2) × (bytes_left pieces ≤ 2 ^ 63) }
+fn numerals_of(pieces: Pieces, first: usize) -> Numerals
+    requires { (first ≤ 2) × (length (pieces_left pieces) ≤ 2 ^ 63) }
     ensures { Noted first (map number_of (map trimmed (pieces_left pieces.entry))) result }
 {
     let mut numerals = Numerals {
@@ -69,7 +46,7 @@ fn numerals_of(mut pieces: Pieces, first: usize) -> Numerals
         bad: None,
         values: [0; 8],
     };
-    while let Some(piece) = pieces.next() {
+    for piece in pieces {
         let field = first + numerals.count;
         numerals.note(field, number(trim(piece)));
     }
@@ -84,7 +61,7 @@ impl Numerals {
         let mut pieces = Pieces::new(line, b';');
         match kind {
             Kind::Span => numerals_of(pieces, 1),
-            _ => {
+            Kind::Heading | Kind::Journey => {
                 let _letter = pieces.next();
                 numerals_of(pieces, 2)
             }

@@ -15,7 +15,7 @@ fn well_counted(kind: Kind, count: usize) -> bool
     match kind {
         Kind::Heading => count == 2,
         Kind::Span => count == 6,
-        Kind::Journey => 4 <= count && count <= 8,
+        Kind::Journey => (4..=8).contains(&count),
     }
 }
 
@@ -36,10 +36,10 @@ pub fn heading_fault(period: u32, events: u32) -> Option<usize>
     ensures fault { result ≡ heading_range period events }
     ensures ranged { IfNone result (RangedHeading period events) }
 {
-    if period < 2 || period > 64 {
+    if !(2..=64).contains(&period) {
         return Some(2);
     }
-    if events < 1 || events > 256 {
+    if !(1..=256).contains(&events) {
         return Some(3);
     }
     None
@@ -50,13 +50,14 @@ pub fn span_fault(index: u32, lower: u32, upper: u32, weight: u32, period: u8) -
     ensures fault { result ≡ span_range period index lower upper weight }
     ensures ranged { IfNone result (RangedSpan period index lower upper weight) }
 {
-    if index < 1 || index > 65_535 {
+    if !(1..=65_535).contains(&index) {
         return Some(1);
     }
-    if lower >= period as u32 {
+    let period = u32::from(period);
+    if lower >= period {
         return Some(4);
     }
-    if upper < lower || upper >= lower + period as u32 {
+    if !(lower..lower + period).contains(&upper) {
         return Some(5);
     }
     if weight > 65_535 {
@@ -70,7 +71,7 @@ pub fn journey_fault(index: u32, cap: u32) -> Option<usize>
     ensures fault { result ≡ journey_range index cap }
     ensures ranged { IfNone result (RangedJourney index cap) }
 {
-    if index < 1 || index > 65_535 {
+    if !(1..=65_535).contains(&index) {
         return Some(2);
     }
     if cap > 315 {
@@ -79,23 +80,11 @@ pub fn journey_fault(index: u32, cap: u32) -> Option<usize>
     None
 }
 
-// Whether the event is one of these.
-fn named(event: u32, events: &[u32]) -> bool
-    ensures { result ≡ stands event events.now }
-{
-    for e in events {
-        if event == *e {
-            return true;
-        }
-    }
-    false
-}
-
 // Whether an event may stand behind those before it: 1 to `most`, and none of them.
 fn right(event: u32, most: u16, before: &[u32]) -> bool
     ensures { result ≡ (from_to 1 most event && not (stands event before.now)) }
 {
-    1 <= event && event <= most as u32 && !named(event, before)
+    (1..=u32::from(most)).contains(&event) && !before.contains(&event)
 }
 
 // The field of the first event that may not stand where it does, the first of them being field `first`.
@@ -104,11 +93,6 @@ pub fn event_fault(events: &[u32], most: u16, first: usize) -> Option<usize>
     ensures fault { result ≡ first_wrong most [] first events.now }
     ensures ranged { IfNone result ((i : ℕ) → i < length events.now → slice_index events.now i ≤ most) }
 {
-    for (i, event) in events.iter().enumerate() {
-        let ok = right(*event, most, &events[0..i]);
-        if !ok {
-            return Some(first + i);
-        }
-    }
-    None
+    let wrong = (0..events.len()).find(|i| !right(events[*i], most, &events[..*i]))?;
+    Some(first + wrong)
 }

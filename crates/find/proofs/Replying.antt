@@ -10,11 +10,12 @@ use Rattle.minutes.proofs.Bits.{in_below}
 use Rattle.relations.specs.Meaning.{Meaning, Laws, size}
 use Rattle.bank.specs.Calls.{all_below}
 use Rattle.bank.proofs.Answering.{below_place}
-use Rattle.calls.specs.Calls.{find, bank_unfit, or_else, find_refusal, ledger}
+use Rattle.calls.specs.Calls.{find, bank_unfit, or_else, find_refusal, unless_refused}
 use Rattle.calls.specs.Replies.{Replies}
+use Rattle.settle.specs.Workspace.{cleared}
 use Rattle.plan.specs.declared.contents.Contents.{Contents}
 use Rattle.plan.specs.Contents.{sets_of}
-use Rattle.plan.proofs.Going.{holds_shows, onward_still}
+use Rattle.plan.proofs.Going.{shows, onward_still}
 use Rattle.left.proofs.Leaving.{fits_size, fits_reach}
 use Rattle.search.specs.declared.Answer.{Answer}
 use Rattle.search.specs.Search.{Problem, WellPosed, FloorOf}
@@ -23,18 +24,16 @@ use Rattle.find.specs.Outcome.{Outcome, Replied}
 use Rattle.find.specs.Onward.{GoesOn}
 
 -- the list says of a find what the contents say
-pub goes_on : (p : Contents) (m : Meaning) (floor : List ℕ) (budget : ℕ) (old new : List ℕ) (w : ℕ) (r : Result Answer Refusal) →
+goes_on : (p : Contents) (m : Meaning) (floor : List ℕ) (budget : ℕ) (old new : List ℕ) (w : ℕ) (r : Result Answer Refusal) →
     Replied (find_refusal p.period p.events m floor (length old) w) (problem m (sets_of p)) floor budget old new r → GoesOn p m floor budget old new w r
-goes_on p m floor budget old new w r a cs d =
-    let l = ledger p.period p.events cs in
-    record {
-      plan = onward_still p (find m floor budget (length old) w) cs refl d;
-      answer = subst (λ f. Replied (find_refusal p.period p.events m floor (length old) w) (problem m f) floor budget old new r) (holds_shows p.levels p l d).sets a;
-    }
+goes_on p m floor budget old new w r a cs d = record {
+  plan = onward_still p (find m floor budget (length old) w) cs refl d;
+  answer = subst (λ f. Replied (find_refusal p.period p.events m floor (length old) w) (problem m f) floor budget old new r) (shows p cs d).sets a;
+}
 
 -- which refusal a find has
 module _ (T E : ℕ) (m : Meaning) (floor : List ℕ) (buffer w : ℕ) where
-  pub refused_short : (length floor < E) ⊎ ((buffer < E) ⊎ (w < 4096)) → find_refusal T E m floor buffer w ≡ Some Short
+  refused_short : (length floor < E) ⊎ ((buffer < E) ⊎ (w < 4096)) → find_refusal T E m floor buffer w ≡ Some Short
   refused_short (inl h) = cond-true _ _ _ (or_left (ltb (length floor) E) _ (lt-ltb (length floor) E h))
   refused_short (inr (inl h)) = cond-true _ _ _ (or_right (ltb (length floor) E) _ (or_left (ltb buffer E) _ (lt-ltb buffer E h)))
   refused_short (inr (inr h)) = cond-true _ _ _ (or_right (ltb (length floor) E) _ (or_right (ltb buffer E) _ (lt-ltb w 4096 h)))
@@ -43,21 +42,49 @@ module _ (T E : ℕ) (m : Meaning) (floor : List ℕ) (buffer w : ℕ) where
     long : (ltb (length floor) E || (ltb buffer E || ltb w 4096)) ≡ false
     long = or_from (ltb (length floor) E) _ (le-ltb (length floor) E a) (or_from (ltb buffer E) _ (le-ltb buffer E b) (le-ltb w 4096 c))
 
-    pub refused_range : all_below T (take E floor) ≡ false → find_refusal T E m floor buffer w ≡ Some Range
+    refused_range : all_below T (take E floor) ≡ false → find_refusal T E m floor buffer w ≡ Some Range
     refused_range h = cond-false _ _ _ long ∙ cond-true _ _ _ (ap not h)
 
-    pub by_bank : all_below T (take E floor) ≡ true → (u : Bool) → u ≡ bank_unfit T E m → find_refusal T E m floor buffer w ≡ or_else u Bank None
+    by_bank : all_below T (take E floor) ≡ true → (u : Bool) → u ≡ bank_unfit T E m → find_refusal T E m floor buffer w ≡ or_else u Bank None
     by_bank h u e = cond-false _ _ _ long ∙ cond-false _ _ _ (ap not h) ∙ ap (λ z. or_else z Bank None) (sym e)
 
 module _ (x : Option Refusal) (q : Problem) (floor : List ℕ) (budget : ℕ) (old new : List ℕ) where
-  pub refused : (e : Refusal) → x ≡ Some e → Replied x q floor budget old old (Err e)
+  refused : (e : Refusal) → x ≡ Some e → Replied x q floor budget old old (Err e)
   refused e is = record { reply = subst (λ z. Replies z (Outcome q floor budget old old) (Err e)) (sym is) refl; kept = λ _ _. refl }
 
-  pub answered : (a : Answer) → x ≡ None → Outcome q floor budget old new a → Replied x q floor budget old new (Ok a)
+  answered : (a : Answer) → x ≡ None → Outcome q floor budget old new a → Replied x q floor budget old new (Ok a)
   answered a is h = record {
     reply = subst (λ z. Replies z (Outcome q floor budget old new) (Ok a)) (sym is) (a, refl, h);
     kept = λ e u. absurd (false≢true (ap is_some (sym is ∙ u)));
   }
+
+-- what is told of a find of the contents p, whose workspace w became w'
+module _ (p : Contents) (m : Meaning) (floor : List ℕ) (budget : ℕ) (old w : List ℕ) where
+  abbrev pub Told : List ℕ → List ℕ → Result Answer Refusal → Type 0
+  Told new w' r = Replied (find_refusal p.period p.events m floor (length old) (length w)) (problem m (sets_of p)) floor budget old new r
+      × (w' ≡ unless_refused (find_refusal p.period p.events m floor (length old) (length w)) (cleared w) w) × GoesOn p m floor budget old new (length w) r
+
+  refuses : (e : Refusal) → find_refusal p.period p.events m floor (length old) (length w) ≡ Some e → Told old w (Err e)
+  refuses e is =
+      let a = refused (find_refusal p.period p.events m floor (length old) (length w)) (problem m (sets_of p)) floor budget old old e is in
+      (a, ap (λ z. unless_refused z (cleared w) w) (sym is), goes_on p m floor budget old old (length w) (Err e) a)
+
+  pub told_short : (length floor < p.events) ⊎ ((length old < p.events) ⊎ (length w < 4096)) → Told old w (Err Short)
+  told_short h = refuses Short (refused_short p.period p.events m floor (length old) (length w) h)
+
+  module _ (a : p.events ≤ length floor) (b : p.events ≤ length old) (c : 4096 ≤ length w) where
+    pub told_range : all_below p.period (take p.events floor) ≡ false → Told old w (Err Range)
+    told_range h = refuses Range (refused_range p.period p.events m floor (length old) (length w) a b c h)
+
+    module _ (below : all_below p.period (take p.events floor) ≡ true) where
+      pub told_bank : bank_unfit p.period p.events m ≡ true → Told old w (Err Bank)
+      told_bank u = refuses Bank (by_bank p.period p.events m floor (length old) (length w) a b c below true (sym u))
+
+      pub told : bank_unfit p.period p.events m ≡ false → (new w' : List ℕ) (answer : Answer) → Outcome (problem m (sets_of p)) floor budget old new answer → w' ≡ cleared w → Told new w' (Ok answer)
+      told u new w' answer outcome clears =
+          let is = by_bank p.period p.events m floor (length old) (length w) a b c below false (sym u) in
+          let a = answered (find_refusal p.period p.events m floor (length old) (length w)) (problem m (sets_of p)) floor budget old new answer is outcome in
+          (a, clears ∙ ap (λ z. unless_refused z (cleared w) w) (sym is), goes_on p m floor budget old new (length w) (Ok answer) a)
 
 -- what the tests leave is a problem and a floor that a find accepts
 fits_period : (T E : ℕ) (m : Meaning) → bank_unfit T E m ≡ false → m.period ≡ T

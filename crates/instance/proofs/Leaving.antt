@@ -1,14 +1,9 @@
 -- What is left of an event of an instance, from what its steps promise.
-use Rattle.std.proofs.Common.{◌≡◌, ℕ, max, List, [], ◌++◌, length, Some, None, Ok, Err, Option, Result, sym, subst, arith}
+use Rattle.std.proofs.Common.{◌≡◌, ℕ, List, [], length, Some, None, Ok, Err, Option, Result, sym, subst, arith}
 use Rattle.refusals.specs.declared.Refusal.{Refusal}
 use Rattle.records.specs.declared.Span.{Span}
 use Rattle.records.specs.declared.Journey.{Journey}
 use Rattle.relations.specs.Meaning.{Meaning}
-use Rattle.relations.specs.Joins.{common}
-use Rattle.relations.specs.Tables.{highest}
-use Rattle.spans.specs.Spans.{span_events, span_relations}
-use Rattle.journeys.specs.Journeys.{journey_events, journey_relations}
-use Rattle.bank.specs.Calls.{meant}
 use Rattle.rest.specs.Rest.{Left}
 use Rattle.calls.specs.Calls.{family, left_refusal, unless_refused}
 use Rattle.calls.specs.Replies.{reply, Replies}
@@ -17,13 +12,6 @@ use Rattle.plan.specs.declared.contents.Contents.{Contents}
 use Rattle.plan.specs.Decided.{Decided, Made}
 use Rattle.reading.specs.Readings.{Reading}
 use Rattle.instance.specs.Joined.{instance_meaning, EventLeft, LeftUnless}
-
--- the meaning of two banks whose periods and records are known
-pub joined_is : (T T₁ T₂ : ℕ) (ss ss' : List Span) (js js' : List Journey) → T₁ ≡ T → T₂ ≡ T → ss' ≡ ss → js' ≡ js →
-    meant (common T₁ T₂) (max (highest span_events ss') (highest journey_events js')) (span_relations T₁ ss' ++ journey_relations T₂ js')
-    ≡ meant (common T T) (max (highest span_events ss) (highest journey_events js)) (span_relations T ss ++ journey_relations T js)
-joined_is T T₁ T₂ ss ss' js js' a b s j =
-    λ i. meant (common (a i) (b i)) (max (highest span_events (s i)) (highest journey_events (j i))) (span_relations (a i) (s i) ++ journey_relations (b i) (j i))
 
 pub event_left : (r : Reading) (spans : List Span) (journeys : List Journey) (event : ℕ) (w w' : List ℕ) (answer : Result ℕ Refusal)
     (T E : ℕ) (m : Meaning) → T ≡ r.period → E ≡ r.events → m ≡ instance_meaning r spans journeys →

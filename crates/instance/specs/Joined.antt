@@ -39,6 +39,13 @@ if_tables_good r spans journeys answer =
     unless_refused (spans_verdict r.period r.events r.spans spans)
     (unless_refused (journeys_verdict r.events r.journeys journeys) answer)
 
+-- the tables are refused, first that of the spans, or there is a bank with the meaning of the instance
+abbrev pub Banked : {A : Type 0} → (A → Meaning) → Reading → List Span → List Journey → Result A Refusal → Type 0
+Banked meaning r spans journeys (Ok b) =
+    (spans_verdict r.period r.events r.spans spans ≡ Ok tt) × (journeys_verdict r.events r.journeys journeys ≡ Ok tt)
+    × (meaning b ≡ instance_meaning r spans journeys)
+Banked meaning r spans journeys (Err f) = ◌≡◌ {A = Result (Unit {0}) Refusal} (if_tables_good r spans journeys (Ok tt)) (Err f)
+
 -- which relation, if any, a timetable does not meet
 abbrev pub timetable_checked : Reading → List Span → List Journey → List ℕ → Result (Option ℕ) Refusal
 timetable_checked r spans journeys x = if_tables_good r spans journeys (checked (instance_meaning r spans journeys) x)

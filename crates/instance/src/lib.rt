@@ -1,9 +1,9 @@
 //! An instance that was read: its spans and journeys as one bank, and the lines behind its relations.
 #![tactic(auto)]
 
-ghost use Rattle.std.specs.Prelude.{◌≡◌, ◌<◌, ◌≤◌, length, Some, None, slice_index_or};
+ghost use Rattle.std.specs.Prelude.{◌≡◌};
 ghost use Rattle.reading.specs.Views.{closed};
-ghost use Rattle.instance.specs.Joined.{timetable_checked, MinutesLeft};
+ghost use Rattle.instance.specs.Joined.{Banked, timetable_checked, MinutesLeft};
 ghost use Rattle.instance.specs.Lines.{LinePlace, part_at};
 
 use bank::Bank;
@@ -14,86 +14,63 @@ use plan::Plan;
 use reading::readings::ClosedReading;
 use records::{Journey, Span};
 use refusals::Refusal;
-use table_banks::journey_bank::JourneyBank;
-use table_banks::span_bank::SpanBank;
+use table_banks::{JourneyBank, SpanBank};
 
-// The lowest relation of the instance, its spans first, that the minutes do not meet; none where they meet each.
-pub fn check_timetable(
-    reading: &ClosedReading,
-    spans: &[Span],
-    journeys: &[Journey],
-    minutes: &[u8],
-) -> Result<Option<usize>, Refusal>
-    ensures { result ≡ timetable_checked (closed reading.now) spans.now journeys.now minutes.now }
-{
-    let mut first = SpanBank::blank();
-    first.fill(reading, spans)?;
-    let mut second = JourneyBank::blank();
-    second.fill(reading, journeys)?;
-    check(&Pair { first, second }, minutes)
+// What was read, and the tables that it was entered in.
+#[derive(Clone, Copy)]
+pub struct Instance<'t> {
+    pub reading: ClosedReading,
+    pub spans: &'t [Span],
+    pub journeys: &'t [Journey],
 }
 
-// The minutes that are left of an event under the instance's relations, with everything allowed: its set in the rest, or
-// 0 where some set of the rest is empty.
-pub fn minutes_left(
-    reading: &ClosedReading,
-    spans: &[Span],
-    journeys: &[Journey],
-    event: u16,
-    workspace: &mut [u64],
-) -> Result<u64, Refusal>
-    ensures { MinutesLeft (closed reading.now) spans.now journeys.now event workspace.old workspace.new result }
-{
-    let mut first = SpanBank::blank();
-    first.fill(reading, spans)?;
-    let mut second = JourneyBank::blank();
-    second.fill(reading, journeys)?;
-    let mut plan = Plan::blank();
-    plan.make(reading.period(), reading.events())?;
-    left(&plan, &Pair { first, second }, event, workspace)
-}
+// Spans, and behind them journeys.
+pub type InstanceBank<'t> = Pair<SpanBank<'t>, JourneyBank<'t>>;
 
-// The place of span `k` of a table.
-fn span_place(table: &[Span], k: usize) -> Option<(usize, usize)>
-    ensures here { k < length table.now → (d : Span) → result ≡ Some (slice_index_or table.now k d).place }
-    ensures past { length table.now ≤ k → result ≡ None }
-{
-    if k < table.len() {
-        return Some(table[k].place);
+impl<'t> Instance<'t> {
+    // Its relations as one bank, the spans first. The tables are tested again, that of the spans first.
+    pub fn bank(&self) -> Result<InstanceBank<'t>, Refusal>
+        ensures { Banked ⟦<InstanceBank<'t> as Bank>⟧.meaning (closed self.now.reading) self.now.spans.now self.now.journeys.now result }
+    {
+        let mut first = SpanBank::blank();
+        first.fill(&self.reading, self.spans)?;
+        let mut second = JourneyBank::blank();
+        second.fill(&self.reading, self.journeys)?;
+        Ok(Pair { first, second })
     }
-    None
-}
 
-// The place of journey `k` of a table.
-fn journey_place(table: &[Journey], k: usize) -> Option<(usize, usize)>
-    ensures here { k < length table.now → (d : Journey) → result ≡ Some (slice_index_or table.now k d).place }
-    ensures past { length table.now ≤ k → result ≡ None }
-{
-    if k < table.len() {
-        return Some(table[k].place);
+    // The lowest of its relations that the minutes do not meet; none where they meet each.
+    pub fn check_timetable(&self, minutes: &[u8]) -> Result<Option<usize>, Refusal>
+        ensures { result ≡ timetable_checked (closed self.now.reading) self.now.spans.now self.now.journeys.now minutes.now }
+    {
+        check(&self.bank()?, minutes)
     }
-    None
-}
 
-// Where the line of relation `k` stands: that of a span, or behind the spans of a journey; None past the last relation,
-// and where a table has no such record.
-pub fn place_of(
-    reading: &ClosedReading,
-    spans: &[Span],
-    journeys: &[Journey],
-    k: usize,
-) -> Option<(usize, usize)>
-    ensures { LinePlace (closed reading.now) spans.now journeys.now k result }
-{
-    let count = reading.spans();
-    if k < count {
-        return span_place(spans, k);
+    // The minutes that are left of an event under its relations, with everything allowed: its set in the rest, or 0 where
+    // some set of the rest is empty.
+    pub fn minutes_left(&self, event: u16, workspace: &mut [u64]) -> Result<u64, Refusal>
+        ensures { MinutesLeft (closed self.now.reading) self.now.spans.now self.now.journeys.now event workspace.old workspace.new result }
+    {
+        let bank = self.bank()?;
+        let mut plan = Plan::blank();
+        plan.make(self.reading.period(), self.reading.events())?;
+        left(&plan, &bank, event, workspace)
     }
-    let j = k - count;
-    if j >= reading.journeys() {
-        return None;
+
+    // Where the line of relation `k` stands: that of a span, or behind the spans of a journey; None past the last relation,
+    // and where a table has no such record.
+    pub fn place_of(&self, k: usize) -> Option<(usize, usize)>
+        ensures { LinePlace (closed self.now.reading) self.now.spans.now self.now.journeys.now k result }
+    {
+        match k.checked_sub(self.reading.spans()) {
+            None => self.spans.get(k).map(|span| span.place),
+            Some(j) if j < self.reading.journeys() => self
+                .journeys
+                .get(j)
+                .map(|journey| journey.place),
+            Some(_) => None,
+        }
     }
-    journey_place(journeys, j)
 }
 
 // The part of the text at a place; nothing where the place is not within the text.
@@ -101,10 +78,7 @@ pub fn part_of<'t>(text: &'t [u8], place: (usize, usize)) -> &'t [u8]
     ensures { result.now ≡ part_at text.now place }
 {
     let (offset, length) = place;
-    let len = text.len();
-    if offset > len || length > len - offset {
-        return &text[0..0];
-    }
-    let end = offset + length;
-    &text[offset..end]
+    text.get(offset..)
+        .and_then(|behind| behind.get(..length))
+        .unwrap_or(&[])
 }

@@ -14,14 +14,14 @@ pub record Ranged (j : Journey) : Type 0 where
   pub few : j.count ≤ 6
   pub long : 2 ≤ length (journey_events j)
 
-ranged : (j : Journey) → journey_in_range j ≡ true → Ranged j
+pub ranged : (j : Journey) → journey_in_range j ≡ true → Ranged j
 ranged j h =
     let a = and_parts (ltb 0 j.index) _ h in
     let b = and_parts (leb j.cap 315) _ a.1 in
     let c = and_parts (leb j.count 6) _ b.1 in
     record { cap = leb-true _ _ b.0; few = leb-true _ _ c.0; long = leb-true _ _ c.1 }
 
-some_event : (j : Journey) → journey_in_range j ≡ true → 0 < length (journey_events j)
+pub some_event : (j : Journey) → journey_in_range j ≡ true → 0 < length (journey_events j)
 some_event j h = omega (arith, (ranged j h).long)
 
 pub journeys_lawful : (T E : ℕ) (js : List Journey) → sound journey_in_range journey_events E js ≡ true →

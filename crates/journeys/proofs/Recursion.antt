@@ -1,12 +1,13 @@
 -- The passes, one set after another.
-use Rattle.std.proofs.Common.{◌≡◌, ℕ, ◌+◌, ◌<◌, ◌≤◌, cond, ◌&&◌, leb, List, [], ◌∷◌, length, take, drop, set, replicate, sym, refl, ap, ◌∙◌, arith}
-use Rattle.std.proofs.lemmas.List.{length-take, take-set, take-take, drop-set, drop_more, drop_all, get_or-replicate, length-replicate}
+use Rattle.std.proofs.Common.{◌≡◌, ℕ, zero, suc, ◌+◌, ◌-◌, ◌<◌, ◌≤◌, Bool, false, not, ◌||◌, cond, ◌&&◌, leb, eqb, List, [], ◌∷◌, map, length, set, replicate, sym, refl, ap, ◌∙◌, subst, inl, inr, arith}
+use Rattle.std.proofs.lemmas.Bool.{eqb-true, eqb-false, or_cases, or_parts, not-true, not-false, both_ways}
+use Rattle.std.proofs.lemmas.List.{length-set, get_or-set_same, get_or-set_other, get_or-replicate}
 use Rattle.minutes.specs.Minutes.{at}
-use Rattle.relations.specs.ExactNarrowing.{has, those}
+use Rattle.relations.specs.ExactNarrowing.{has, those, of}
+use Rattle.relations.specs.Tables.{Chain}
 use Rattle.minutes.specs.Differences.{gap}
-use Rattle.journeys.specs.Lengths.{no_way, least, onward, to_go, swept}
-use Rattle.journeys.specs.Lengths.{Row, Swept}
-use Rattle.journeys.proofs.Leasts.{least_cong, row_none}
+use Rattle.journeys.specs.Lengths.{no_way, onward, behind, to_go, swept, Holds, Put, Swept}
+use Rattle.journeys.proofs.Leasts.{least_cong}
 use Rattle.journeys.proofs.Gathering.{those_cong}
 
 onward_cong : (T : ℕ) (F G : ℕ → ℕ) (s b : ℕ) → ((m : ℕ) → m < T → F m ≡ G m) → onward T F s b ≡ onward T G s b
@@ -20,54 +21,80 @@ swept_cong T cap F G (s ∷ ss) e =
     let b = swept_cong T cap (onward T F s) (onward T G s) ss (λ m l. onward_cong T F G s m e) in
     λ i. a i ∷ b i
 
-pub swept_end : (T cap k : ℕ) (fore sets : List ℕ) → T ≤ 64 → k ≡ length sets → Swept T cap k fore sets sets (replicate 64 0)
-swept_end T cap k fore sets t h = record { front = refl; rest = e ∙ sym (ap (swept T cap (at fore)) e); through = row }
-  where
-    e : drop k sets ≡ []
-    e = drop_all k sets (omega arith)
+pub swept_none : (T cap : ℕ) (fore chain before row : List ℕ) → T ≤ 64 → length chain ≡ 0 → row ≡ replicate 64 0 → Swept T cap fore chain before before row false
+swept_none T cap fore [] before row t h e = record {
+  put = record {
+    len = refl;
+    here = λ i l. absurd (omega arith);
+    other = λ p n. refl;
+    moved = λ z. absurd (both_ways false refl z);
+    still = λ z i l. absurd (omega arith);
+  };
+  through = record { value = λ m l. ap (λ r. at r m) e ∙ get_or-replicate 64 m 0 0 (omega arith) };
+}
+swept_none T cap fore (s ∷ ss) before row t h e = absurd (omega arith)
 
-    row : Row T (to_go T (drop k sets)) (replicate 64 0)
-    row = record {
-      len = length-replicate {A = ℕ} 64 0;
-      value = λ m l. get_or-replicate 64 m 0 0 (omega arith) ∙ sym (ap (λ z. to_go T z m) e);
-      small = (row_none (λ m. 0) 0 (omega arith)).small;
-    }
+-- one more set put, at the event before the others
+module _ (e v : ℕ) (es sets before middle : List ℕ) (q : Bool) (c : Chain (length before) (e ∷ es)) (p : Put es sets before middle q) where
+  low : 1 ≤ e
+  low = c.low 0 (omega arith)
 
-module _ (T cap k : ℕ) (fore before middle here next row : List ℕ) (v : ℕ) (h : k < length before)
-    (a : Row T (onward T (at fore) (at before k)) here)
-    (p : Swept T cap (k + 1) here before middle next)
-    (e : v ≡ those T (λ m. has m (at before k) && leb (at here m + at next m) cap))
-    (b : Row T (λ a. least T (λ b. cond (has b (at before k)) (gap T a b + at next b) no_way)) row) where
-  s : ℕ
-  s = at before k
+  apart : (i : ℕ) → i < length es → at es i - 1 ≡ e - 1 → ⊥
+  apart i l z = let w : ◌≡◌ {A = ℕ} (suc i) 0 = c.apart (suc i) 0 (omega arith) (omega arith) (omega (arith, c.low (suc i) (omega arith), low)) in omega arith
 
-  ss : List ℕ
-  ss = drop (k + 1) before
+  old : at middle (e - 1) ≡ at before (e - 1)
+  old = p.other (e - 1) (λ i l z. apart i l (omega (arith, low)))
 
-  long : k < length middle
-  long = omega (arith, length-take (k + 1) middle, length-take (k + 1) before, ap length p.front)
-
-  next_is : (m : ℕ) → m < T → at next m ≡ to_go T (drop (k + 1) before) m
-  next_is = p.through.value
-
-  kept_is : v ≡ those T (λ m. has m (at before k) && leb (onward T (at fore) (at before k) m + to_go T (drop (k + 1) before) m) cap)
-  kept_is = e ∙ those_cong T _ _ (λ m l. ap (λ z. has m (at before k) && leb (z + at next m) cap) (a.value m l) ∙ ap (λ z. has m (at before k) && leb (onward T (at fore) (at before k) m + z) cap) (next_is m l))
-
-  rest_is : drop (k + 1) middle ≡ swept T cap (onward T (at fore) (at before k)) (drop (k + 1) before)
-  rest_is = p.rest ∙ swept_cong T cap (at here) (onward T (at fore) (at before k)) (drop (k + 1) before) a.value
-
-  split : drop k before ≡ at before k ∷ drop (k + 1) before
-  split = drop_more before k 0 h
-
-  pub swept_more : Swept T cap k fore before (set middle k v) row
-  swept_more = record {
-    front = take-set middle k v ∙ sym (take-take k (k + 1) middle (omega arith)) ∙ ap (take k) p.front ∙ take-take k (k + 1) before (omega arith);
-    rest = drop-set middle k v long ∙ (λ i. kept_is i ∷ rest_is i) ∙ sym (ap (swept T cap (at fore)) split);
-    through = record {
-      len = b.len;
-      value = λ m l. b.value m l
-          ∙ least_cong T _ _ (λ c u. ap (λ z. cond (has c (at before k)) (gap T m c + z) no_way) (next_is c u))
-          ∙ sym (ap (λ z. to_go T z m) split);
-      small = b.small;
-    };
+  pub put_more : (changed : Bool) → changed ≡ (q || not (eqb v (of before e))) → Put (e ∷ es) (v ∷ sets) before (set middle (e - 1) v) changed
+  put_more changed is = record {
+    len = length-set middle (e - 1) v ∙ p.len;
+    here = here;
+    other = λ r h. get_or-set_other middle (e - 1) r v 0 (λ z. h 0 (omega arith) (omega (arith, low))) ∙ p.other r (λ i l. h (suc i) (omega arith));
+    moved = λ t. elim (or_cases q (not (eqb v (of before e))) (sym is ∙ t)) [
+      | inl a ↦ let m = p.moved a in (suc m.0, omega (arith, m.1), m.2)
+      | inr b ↦ (0, omega arith, eqb-false v (of before e) (not-true _ b))
+    ];
+    still = still;
   }
+    where
+      here : (i : ℕ) → i < length (e ∷ es) → at (set middle (e - 1) v) (at (e ∷ es) i - 1) ≡ at (v ∷ sets) i
+      here zero l = get_or-set_same middle (e - 1) v 0 (omega (arith, low, p.len, c.high 0 (omega arith)))
+      here (suc i) l = get_or-set_other middle (e - 1) (at es i - 1) v 0 (apart i (omega arith)) ∙ p.here i (omega arith)
+
+      still : changed ≡ false → (i : ℕ) → i < length (e ∷ es) → at (v ∷ sets) i ≡ at before (at (e ∷ es) i - 1)
+      still t zero l = eqb-true v (of before e) (not-false _ (or_parts q (not (eqb v (of before e))) (sym is ∙ t)).1)
+      still t (suc i) l = p.still (or_parts q (not (eqb v (of before e))) (sym is ∙ t)).0 i (omega arith)
+
+-- a chain but for its first event
+pub rest_chain : (n e : ℕ) (es : List ℕ) → Chain n (e ∷ es) → 0 < length es → Chain n es
+rest_chain n e es c h = record {
+  some = h;
+  low = λ i l. c.low (suc i) (omega arith);
+  high = λ i l. c.high (suc i) (omega arith);
+  apart = λ i j l u z. let w : ◌≡◌ {A = ℕ} (suc i) (suc j) = c.apart (suc i) (suc j) (omega arith) (omega arith) z in omega arith;
+}
+
+module _ (T cap e v : ℕ) (chain es before middle fore here next row : List ℕ) (q changed : Bool)
+    (split : chain ≡ e ∷ es)
+    (c : 0 < length chain → Chain (length before) chain)
+    (a : Holds T (onward T (at fore) (of before e)) here)
+    (p : Swept T cap here es before middle next q)
+    (k : v ≡ those T (λ m. has m (of before e) && leb (at here m + at next m) cap))
+    (b : Holds T (behind T (at next) (of before e)) row)
+    (is : changed ≡ (q || not (eqb v (of before e)))) where
+  kept_is : v ≡ those T (λ m. has m (of before e) && leb (onward T (at fore) (of before e) m + to_go T (map (of before) es) m) cap)
+  kept_is = k ∙ those_cong T _ _ (λ m l. ap (λ z. has m (of before e) && leb (z + at next m) cap) (a.value m l) ∙ ap (λ z. has m (of before e) && leb (onward T (at fore) (of before e) m + z) cap) (p.through.value m l))
+
+  sets_are : v ∷ swept T cap (at here) (map (of before) es) ≡ swept T cap (at fore) (map (of before) (e ∷ es))
+  sets_are = let w = swept_cong T cap (at here) (onward T (at fore) (of before e)) (map (of before) es) a.value in λ i. kept_is i ∷ w i
+
+  whole : Chain (length before) (e ∷ es)
+  whole = subst (Chain (length before)) split (c (omega (arith, ap length split)))
+
+  pub swept_more : Swept T cap fore chain before (set middle (e - 1) v) row changed
+  swept_more = subst (λ z. Swept T cap fore z before (set middle (e - 1) v) row changed) (sym split) (record {
+    put = subst (λ z. Put (e ∷ es) z before (set middle (e - 1) v) changed) sets_are (put_more e v es _ before middle q whole p.put changed is);
+    through = record {
+      value = λ m l. b.value m l ∙ least_cong T _ _ (λ c u. ap (λ z. cond (has c (of before e)) (gap T m c + z) no_way) (p.through.value c u));
+    };
+  })

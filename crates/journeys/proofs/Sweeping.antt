@@ -69,7 +69,7 @@ swept_chain T cap F (s ∷ ss) zero t l h =
     let n = leb-true (onward T F s t + to_go T ss t) cap y.1 in
     let b = onward_some T F s t (cap - to_go T ss t) (omega arith) (omega arith) in
     let q = to_go_some T ss t (cap - (F b.1.0 + gap T b.1.0 t)) (omega (arith, b.1.2)) (omega arith) in
-    record { from = b.1.0; below = b.1.1; minutes = t ∷ q.0; pick = (p.0, b.0, q.1); here = refl; short = omega (arith, q.2, b.1.2) }
+    record { from = b.1.0; below = b.1.1; minutes = t ∷ q.0; pick = (p.0, b.0, q.1); here = refl {a = t}; short = omega (arith, q.2, b.1.2) }
 swept_chain T cap F (s ∷ ss) (suc i) t l h =
     let c = swept_chain T cap (onward T F s) ss i t l h in
     let b = onward_some T F s c.from (cap - legs T (c.from ∷ c.minutes)) (omega (arith, c.short)) (omega arith) in

@@ -1,113 +1,112 @@
 //! Least lengths of ways through the sets of a chain, minute by minute.
-//!
-//! A row has a place for each minute; its value is at most 1000, the length where no way leads.
-ghost use Rattle.std.specs.Prelude.{◌≡◌, ℕ, ◌+◌, ◌<◌, ◌≤◌, ◌&&◌, length, if◌then◌else◌, nat_le};
+ghost use Rattle.std.specs.Prelude.{◌≡◌, ℕ, ◌+◌, ◌-◌, ◌<◌, ◌≤◌, ◌&&◌, length, replicate, if◌then◌else◌, nat_le};
 ghost use Rattle.minutes.specs.Minutes.{at};
-ghost use Rattle.minutes.specs.Differences.{gap};
 ghost use Rattle.relations.specs.ExactNarrowing.{has, those};
-ghost use Rattle.journeys.specs.Lengths.{no_way, least, onward, Row, Swept};
+ghost use Rattle.relations.specs.Tables.{Chain};
+ghost use Rattle.journeys.specs.Lengths.{no_way, ahead, onward, behind, Holds, Swept};
 
-// The length of the leg from minute `a` to minute `b`, round the period.
-pub(crate) fn leg(a: u8, b: u8, period: u8) -> u8
-    requires most { period ≤ 64 }
-    requires a { a < period }
-    requires b { b < period }
-    ensures is { result ≡ gap period a b }
-    ensures below { result < period }
-{
-    if a <= b { b - a } else { b + period - a }
+use minutes::{Period, has};
+
+// The length where no way leads: longer than any cap.
+const NO_WAY: u16 = 1000;
+
+// A length for each minute, none above `NO_WAY`.
+#[derive(Clone, Copy)]
+pub(crate) struct Row {
+    lengths: [u16; 64],
+    ghost small: { (m : ℕ) → at lengths m ≤ 1000 },
 }
 
-// The least length to minute `b`, where `fore` has those to the minutes before.
-fn least_to(fore: &[u16; 64], b: u8, period: u8) -> u16
-    requires most { period ≤ 64 }
-    requires b { b < period }
-    requires small { (m : ℕ) → at fore.now m ≤ 1000 }
-    ensures { result ≡ least period (λ a. at fore.now a + gap period a b) }
-{
-    let mut best: u16 = 1000;
-    for a in 0..period {
-        best = best.min(fore[a as usize] + leg(a, b, period) as u16);
+// The loops go by minute: its number counts too, in the set or as a length, and of what a zip with `iter_mut` writes a
+// proof knows nothing.
+impl Row {
+    // Length 0 for every minute.
+    pub(crate) fn zero() -> Row
+        ensures { result.lengths ≡ replicate 64 0 }
+    {
+        Row { lengths: [0; 64] }
     }
-    best
-}
 
-// The least length from minute `a` on, where `next` has those from the minutes of the next set.
-fn least_from(next: &[u16; 64], set: u64, a: u8, period: u8) -> u16
-    requires most { period ≤ 64 }
-    requires a { a < period }
-    requires small { (m : ℕ) → at next.now m ≤ 1000 }
-    ensures { result ≡ least period (λ b. (if has b set then gap period a b + at next.now b else no_way)) }
-{
-    let mut best: u16 = 1000;
-    for b in 0..period {
-        if (set >> b) % 2 == 1 {
-            best = best.min(leg(a, b, period) as u16 + next[b as usize]);
+    // The lengths by the minutes of the set; no way by the others.
+    fn within(&self, set: u64, period: Period) -> Row
+        ensures { Holds period.minutes (λ m. (if has m set then at self.now.lengths m else no_way)) result.lengths }
+    {
+        let mut lengths = [NO_WAY; 64];
+        for m in 0..period.minutes {
+            let length = self.lengths[m as usize];
+            lengths[m as usize] = if has(set, m) { length } else { NO_WAY };
         }
+        Row { lengths }
     }
-    best
-}
 
-// The length by minute `m` of the set; no way where the set has it not.
-fn length_by(set: u64, m: u8, length: u16) -> u16
-    requires { m < 64 }
-    ensures { result ≡ (if has m set then length else no_way) }
-{
-    if (set >> m) % 2 == 1 { length } else { 1000 }
-}
-
-// The least lengths to the minutes of the set, in one scan: a minute is reached from the one before it, a minute later.
-fn onward_row(fore: &[u16; 64], set: u64, period: u8) -> [u16; 64]
-    requires some { 0 < period }
-    requires most { period ≤ 64 }
-    requires small { (m : ℕ) → at fore.now m ≤ 1000 }
-    ensures { Row period (onward period (at fore.now) set) result }
-{
-    let mut row = [1000u16; 64];
-    let mut best = least_to(fore, period - 1, period);
-    for b in 0..period {
-        best = (best + 1).min(fore[b as usize]);
-        row[b as usize] = length_by(set, b, best);
+    // The lengths from the last minute of the period to the first.
+    fn reversed(&self, period: Period) -> Row
+        ensures { Holds period.minutes (λ m. at self.now.lengths (period.minutes - 1 - m)) result.lengths }
+    {
+        let mut lengths = self.lengths;
+        lengths[..period.minutes as usize].reverse();
+        Row { lengths }
     }
-    row
-}
 
-// The least lengths from each minute through the set and on, in one scan from the last minute to the first.
-fn to_go_row(next: &[u16; 64], set: u64, period: u8) -> [u16; 64]
-    requires some { 0 < period }
-    requires most { period ≤ 64 }
-    requires small { (m : ℕ) → at next.now m ≤ 1000 }
-    ensures { Row period (λ a. least period (λ b. (if has b set then gap period a b + at next.now b else no_way))) result }
-{
-    let mut row = [1000u16; 64];
-    let mut best = least_from(next, set, 0, period);
-    for i in 0..period {
-        let a = period - 1 - i;
-        best = (best + 1).min(length_by(set, a, next[a as usize]));
-        row[a as usize] = best;
+    // The least length to the last minute of the period.
+    fn to_last(&self, period: Period) -> u16
+        ensures { result ≡ ahead period.minutes (at self.now.lengths) (period.minutes - 1) }
+    {
+        let last = period.minutes - 1;
+        let mut best = NO_WAY;
+        for a in 0..period.minutes {
+            best = best.min(self.lengths[a as usize] + (last - a) as u16);
+        }
+        best
     }
-    row
+
+    // The least lengths to all minutes, in one scan: a minute is reached from the one before it, a minute later.
+    fn ahead(&self, period: Period) -> Row
+        ensures { Holds period.minutes (ahead period.minutes (at self.now.lengths)) result.lengths }
+    {
+        let mut lengths = [NO_WAY; 64];
+        let mut best = self.to_last(period);
+        for b in 0..period.minutes {
+            best = (best + 1).min(self.lengths[b as usize]);
+            lengths[b as usize] = best;
+        }
+        Row { lengths }
+    }
+
+    // The least lengths to the minutes of the set, where these lead to the minutes before.
+    fn onward(&self, set: u64, period: Period) -> Row
+        ensures { Holds period.minutes (onward period.minutes (at self.now.lengths) set) result.lengths }
+    {
+        self.ahead(period).within(set, period)
+    }
+
+    // The least lengths from each minute through the set and on, where these lead on from it: the way back, read backwards.
+    fn to_go(&self, set: u64, period: Period) -> Row
+        ensures { Holds period.minutes (behind period.minutes (at self.now.lengths) set) result.lengths }
+    {
+        self.within(set, period)
+            .reversed(period)
+            .ahead(period)
+            .reversed(period)
+    }
 }
 
 // Whether a way within the cap leads by minute `m` of the set.
-fn within_cap(here: &[u16; 64], next: &[u16; 64], set: u64, m: u8, cap: u16) -> bool
+fn within_cap(here: &Row, next: &Row, set: u64, m: u8, cap: u16) -> bool
     requires m { m < 64 }
-    requires here { (i : ℕ) → at here.now i ≤ 1000 }
-    requires next { (i : ℕ) → at next.now i ≤ 1000 }
-    ensures { result ≡ (has m set && nat_le (at here.now m + at next.now m) cap) }
+    ensures { result ≡ (has m set && nat_le (at here.now.lengths m + at next.now.lengths m) cap) }
 {
-    (set >> m) % 2 == 1 && here[m as usize] + next[m as usize] <= cap
+    // `&` and no branch, which would often be guessed wrong.
+    has(set, m) & (here.lengths[m as usize] + next.lengths[m as usize] <= cap)
 }
 
 // The minutes of the set by which a way within the cap leads.
-fn kept_set(here: &[u16; 64], next: &[u16; 64], set: u64, cap: u16, period: u8) -> u64
-    requires most { period ≤ 64 }
-    requires here { (m : ℕ) → at here.now m ≤ 1000 }
-    requires next { (m : ℕ) → at next.now m ≤ 1000 }
-    ensures { result ≡ those period (λ m. has m set && nat_le (at here.now m + at next.now m) cap) }
+fn kept_set(here: &Row, next: &Row, set: u64, cap: u16, period: Period) -> u64
+    ensures { result ≡ those period.minutes (λ m. has m set && nat_le (at here.now.lengths m + at next.now.lengths m) cap) }
 {
+    // A loop: written with `filter` and `fold`, narrowing takes a seventh more time.
     let mut left: u64 = 0;
-    for m in 0..period {
+    for m in 0..period.minutes {
         if within_cap(here, next, set, m, cap) {
             left |= 1u64 << m;
         }
@@ -115,21 +114,26 @@ fn kept_set(here: &[u16; 64], next: &[u16; 64], set: u64, cap: u16, period: u8) 
     left
 }
 
-// Narrows the sets from place `k` on, where `fore` has the least lengths to the minutes before,
-// and answers the least lengths from each minute through them.
-pub(crate) fn sweep(period: u8, cap: u16, k: usize, sets: &mut [u64], fore: [u16; 64]) -> [u16; 64]
-    requires some { 0 < period }
-    requires most { period ≤ 64 }
-    requires inside { k ≤ length sets.old }
-    requires small { (m : ℕ) → at fore m ≤ 1000 }
-    ensures { Swept period cap k fore sets.old sets.new result }
+// Narrows the sets of the chain's events, where `fore` has the least lengths to the minutes before. Answers the least
+// lengths from each minute through the chain, and whether a set changed.
+pub(crate) fn sweep(
+    chain: &[u16],
+    cap: u16,
+    period: Period,
+    family: &mut [u64],
+    fore: &Row,
+) -> (Row, bool)
+    requires { 0 < length chain.now → Chain (length family.old) chain.now }
+    ensures { Swept period.minutes cap fore.now.lengths chain.now family.old family.new result.0.lengths result.1 }
 {
-    if k == sets.len() {
-        return [0; 64];
-    }
-    let set = sets[k];
-    let here = onward_row(&fore, set, period);
-    let next = sweep(period, cap, k + 1, sets, here);
-    sets[k] = kept_set(&here, &next, set, cap, period);
-    to_go_row(&next, set, period)
+    let Some((event, rest)) = chain.split_first() else {
+        return (Row::zero(), false);
+    };
+    let place = *event as usize - 1;
+    let set = family[place];
+    let here = fore.onward(set, period);
+    let (next, changed) = sweep(rest, cap, period, family, &here);
+    let kept = kept_set(&here, &next, set, cap, period);
+    family[place] = kept;
+    (next.to_go(set, period), changed || kept != set)
 }

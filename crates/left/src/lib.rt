@@ -1,22 +1,23 @@
 //! What is left of an event's minutes.
 #![tactic(auto)]
 
-ghost use Rattle.std.specs.Prelude.{◌≡◌, ◌+◌, ◌<◌, length};
-ghost use Rattle.bank.specs.Calls.{meant};
-ghost use Rattle.rest.specs.Rest.{left_in};
+ghost use Rattle.std.specs.Prelude.{◌+◌, ◌<◌, length};
+ghost use Rattle.rest.specs.Rest.{Left, Suits};
 ghost use Rattle.left.specs.Leaves.{Leaves};
 
 use bank::Bank;
 use plan::Plan;
 use refusals::Refusal;
-use settle::{clear, has_empty, settle, unfit};
+use settle::{FitBank, WORKSPACE, clear_workspace};
 
-// The set at the place, in a family that is a rest; 0 where some set of it is empty.
-fn left_in(family: &[u64], place: usize) -> u64
-    requires { place < length family.now }
-    ensures { result ≡ left_in family.now (place + 1) }
+// What is left at the place, once the family is narrowed to its rest.
+fn left_at<B: Bank>(bank: &FitBank<B>, family: &mut [u64], place: usize) -> u64
+    requires suits { Suits (B.meaning bank.now.bank.now) family.old }
+    requires place { place < length family.old }
+    ensures { Left (B.meaning bank.now.bank.now) family.old (place + 1) result }
 {
-    if has_empty(family) { 0 } else { family[place] }
+    let alive = bank.settle(family);
+    if alive { family[place] } else { 0 }
 }
 
 // What is left of the event's minutes under the bank: its set in the rest of the allowed family, or 0 where some set of
@@ -28,23 +29,17 @@ pub fn left<B: Bank>(
     event: u16,
     workspace: &mut [u64],
 ) -> Result<u64, Refusal>
-    ensures { Leaves plan.now.contents (meant (B.period bank.now) (B.reach bank.now) (B.relations bank.now)) event workspace.old workspace.new result }
+    ensures { Leaves plan.now.contents (B.meaning bank.now) event workspace.old workspace.new result }
 {
-    if workspace.len() < 4096 {
+    if workspace.len() < WORKSPACE {
         return Err(Refusal::Short);
     }
-    if event == 0 || event > plan.events() {
-        return Err(Refusal::Event);
-    }
-    if unfit(bank, plan.period(), plan.events()) {
-        return Err(Refusal::Bank);
-    }
+    let place = plan.place_of(event)?;
+    let bank = FitBank::new(bank, plan.period(), plan.events())?;
     let allowed = plan.family();
-    let events = allowed.len();
-    let family = &mut workspace[0..events];
+    let family = &mut workspace[..allowed.len()];
     family.copy_from_slice(allowed);
-    settle(bank, family);
-    let answer = left_in(family, (event - 1) as usize);
-    clear(&mut workspace[0..4096]);
+    let answer = left_at(&bank, family, place);
+    clear_workspace(workspace);
     Ok(answer)
 }

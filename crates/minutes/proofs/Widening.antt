@@ -18,10 +18,10 @@ widened_one T s h = record {
     zero_gap : (m : ℕ) → m < T → gap T 0 m ≡ m
     zero_gap m l = let q : m - 0 ≡ m = omega arith in gap_up T 0 m (omega arith) l ∙ q
 
-pub widened_more : (T n k s r q : ℕ) → k ≤ n → n + k ≤ T → Widened T n s r → Turned T k r q → Widened T (n + k) s (bit_or r q)
-widened_more T n k s r q h l w t = record { below = or_lt T r q w.below t.below; from = from; to = to }
+pub widened_more : (T n k j s r q : ℕ) → k ≤ n → n + k ≡ j → j ≤ T → Widened T n s r → Turned T k r q → Widened T j s (bit_or r q)
+widened_more T n k j s r q h sum l w t = record { below = or_lt T r q w.below t.below; from = from; to = to }
   where
-    from : (m : ℕ) → In m (bit_or r q) → (d : ℕ) × (d < n + k) × In (gap T d m) s
+    from : (m : ℕ) → In m (bit_or r q) → (d : ℕ) × (d < j) × In (gap T d m) s
     from m i = elim (in_or r q m i) [
       | inl a ↦ let u = w.from m a in (u.0, omega (arith, u.1), u.2)
       | inr b ↦
@@ -30,7 +30,7 @@ widened_more T n k s r q h l w t = record { below = or_lt T r q w.below t.below;
           (k + u.0, omega (arith, u.1), subst (λ z. In z s) (gap_gap T k u.0 m (omega (arith, u.1)) hm) u.2)
     ]
 
-    to : (m d : ℕ) → m < T → d < n + k → In (gap T d m) s → In m (bit_or r q)
+    to : (m d : ℕ) → m < T → d < j → In (gap T d m) s → In m (bit_or r q)
     to m d hm hd i = elim (cases_lt d n) [
       | inl a ↦ or_left r q m (w.to m d hm a i)
       | inr b ↦

@@ -1,12 +1,12 @@
 -- The calls of a pair.
-use Rattle.std.proofs.Common.{◌≡◌, ℕ, zero, suc, ◌-◌, ◌<◌, ◌≤◌, min, Bool, true, false, ltb, List, [], ◌∷◌, length, take, sym, refl, ap, ◌∙◌, arith}
+use Rattle.std.proofs.Common.{◌≡◌, ℕ, zero, suc, ◌-◌, ◌<◌, ◌≤◌, min, Bool, true, ltb, List, [], ◌∷◌, length, take, sym, refl, ap, ◌∙◌, arith}
 use Rattle.std.proofs.lemmas.Bool.{cond-true, ltb-true, lt-ltb, and_parts, and_from}
 use Rattle.std.proofs.lemmas.List.{length-append}
 use Rattle.relations.specs.Meaning.{Meaning, relation, size}
 use Rattle.relations.specs.Joins.{joined}
 use Rattle.relations.proofs.Joining.{relation_left, relation_right, common_left, common_right}
 use Rattle.bank.specs.Calls.{in_limits, all_below, answer, Narrows}
-use Rattle.bank.proofs.Answering.{limits_are, limits_from, uncapped, answer_outside, answer_late, answer_inside, narrows_outside, narrows_inside}
+use Rattle.bank.proofs.Answering.{limits_are, limits_from, uncapped, answer_inside, narrows_inside}
 
 -- fewer minutes and a larger period pass the test too
 pub below_wider : (T T' r r' : ℕ) (x : List ℕ) → T ≤ T' → r' ≤ r → all_below T (take r x) ≡ true → all_below T' (take r' x) ≡ true
@@ -30,15 +30,8 @@ module _ (a b : Meaning) (k s r : ℕ) (hs : s ≡ min (size (joined a b)) 513) 
   true_limits : (n : ℕ) (v : Bool) → in_limits s r k n ≡ v → in_limits (size (joined a b)) (joined a b).reach k n ≡ v
   true_limits n v h = uncapped (size (joined a b)) (joined a b).reach k n v (ap (λ z. in_limits z (min (joined a b).reach 257) k n) (sym hs) ∙ ap (λ z. in_limits s z k n) (sym hr) ∙ h)
 
-  pub pair_outside : (x : List ℕ) → in_limits s r k (length x) ≡ false → false ≡ answer (joined a b) k x
-  pair_outside x h = answer_outside (joined a b) k _ _ refl refl x (true_limits (length x) false h)
-
   reach_true : (n : ℕ) → in_limits s r k n ≡ true → r ≡ (joined a b).reach
   reach_true n h = let m = limits_are s r k n h in omega (arith, hr, m.low, m.high)
-
-  pub pair_late : (x : List ℕ) (p : ℕ) → p ≡ (joined a b).period → in_limits s r k (length x) ≡ true → all_below p (take r x) ≡ false → false ≡ answer (joined a b) k x
-  pair_late x p e h c = answer_late (joined a b) k _ _ refl refl x (true_limits (length x) true h)
-      (ap (λ z. all_below (joined a b).period (take z x)) (sym (reach_true (length x) h)) ∙ ap (λ z. all_below z (take r x)) (sym e) ∙ c)
 
   pair_inside : (x : List ℕ) (p : ℕ) (v : Bool) → p ≡ (joined a b).period → in_limits s r k (length x) ≡ true → all_below p (take r x) ≡ true → v ≡ (relation (joined a b) k).condition x → v ≡ answer (joined a b) k x
   pair_inside x p v e h c = answer_inside (joined a b) k _ _ refl refl x v (true_limits (length x) true h)
@@ -63,17 +56,6 @@ module _ (a b : Meaning) (k s r : ℕ) (hs : s ≡ min (size (joined a b)) 513) 
       ∙ part-answer b p r (k - n) x (omega (arith, e, common_right a.period b.period)) (omega (arith, reach_true (length x) h)) z.2 (omega (arith, m.table)) m.low m.high c
       ∙ ap (λ y. (relation b y).condition x) z.1
       ∙ ap (λ y. y.condition x) (sym (relation_right a b k z.0)))
-
-  pub pair_still : (f : List ℕ) → in_limits s r k (length f) ≡ false → Narrows (joined a b) k f f false
-  pair_still f h = narrows_outside (joined a b) k _ _ refl refl f (true_limits (length f) false h)
-
-  pub narrow_left : (f g : List ℕ) (n : ℕ) (v : Bool) → in_limits s r k (length f) ≡ true → n ≡ min (size a) 513 → k < n → Narrows a k f g v → Narrows (joined a b) k f g v
-  narrow_left f g n v h w i q =
-      let m = limits_are s r k (length f) h in
-      let l : k < size a = omega arith in
-      narrows_inside (joined a b) k _ _ refl refl f g v (true_limits (length f) true h)
-      (q.after ∙ cond-true _ _ _ (part-limits a r k (length f) (omega (arith, reach_true (length f) h)) l m.table m.low m.high) ∙ ap (λ z. z.narrowing f) (sym (relation_left a b k l)))
-      q.other q.same
 
   pub narrow_right : (f g : List ℕ) (n : ℕ) (v : Bool) → in_limits s r k (length f) ≡ true → n ≡ min (size a) 513 → n ≤ k → Narrows b (k - n) f g v → Narrows (joined a b) k f g v
   narrow_right f g n v h w i q =

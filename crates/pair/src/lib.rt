@@ -1,9 +1,8 @@
 //! Two banks as one.
 #![tactic(auto)]
 
-ghost use Rattle.std.specs.Prelude.{max, ◌++◌};
-ghost use Rattle.relations.specs.Joins.{common};
-ghost use Rattle.relations.proofs.Joining.{joined_deflation, joined_soundness, joined_exactness, joined_monotony, joined_silence, joined_confinement};
+ghost use Rattle.relations.specs.Joins.{joined};
+ghost use Rattle.relations.proofs.Joining.{joins_are_lawful};
 
 use bank::{Bank, all_below, in_limits};
 
@@ -15,23 +14,7 @@ pub struct Pair<A, B> {
 }
 
 impl<A: Bank, B: Bank> Bank for Pair<A, B> {
-    ghost period = { λ s. common (A.period s.first) (B.period s.second) };
-
-    ghost reach = { λ s. max (A.reach s.first) (B.reach s.second) };
-
-    ghost relations = { λ s. A.relations s.first ++ B.relations s.second };
-
-    ghost deflation = { λ s. joined_deflation (A.relations s.first) (B.relations s.second) (A.deflation s.first) (B.deflation s.second) };
-
-    ghost soundness = { λ s. joined_soundness (A.relations s.first) (B.relations s.second) (A.soundness s.first) (B.soundness s.second) };
-
-    ghost exactness = { λ s. joined_exactness (A.relations s.first) (B.relations s.second) (A.exactness s.first) (B.exactness s.second) };
-
-    ghost monotony = { λ s. joined_monotony (A.relations s.first) (B.relations s.second) (A.monotony s.first) (B.monotony s.second) };
-
-    ghost silence = { λ s. joined_silence (A.relations s.first) (B.relations s.second) (A.deflation s.first) (B.deflation s.second) (A.silence s.first) (B.silence s.second) };
-
-    ghost confinement = { λ s. joined_confinement (A.relations s.first) (B.relations s.second) (A.confinement s.first) (B.confinement s.second) };
+    ghost meaning = { λ s. joined (A.meaning s.first) (B.meaning s.second) };
 
     fn period(&self) -> u8 {
         let period = self.first.period();
@@ -75,4 +58,6 @@ impl<A: Bank, B: Bank> Bank for Pair<A, B> {
         }
         self.second.narrow(k - first, family)
     }
+
+    ghost laws = { λ s. joins_are_lawful.of_joined (A.meaning s.first) (B.meaning s.second) (A.laws s.first) (B.laws s.second) };
 }

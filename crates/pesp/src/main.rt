@@ -11,31 +11,21 @@ use std::io::Read;
 // One byte more than a text may have, so that a longer one is seen to be too long.
 const READ_MOST: u64 = 60_001;
 
-// A line for each event: its number and its minute.
-fn tell_minutes(rt: &HostRuntime, events: u16, minutes: &[u8]) -> io::Result<()> {
-    for (i, minute) in minutes.iter().take(events as usize).enumerate() {
-        let event = i.saturating_add(1);
+// The answer and its number, and then the timetable that was found or the floor to go on from: a line for each event.
+fn tell(rt: &HostRuntime, solution: Solution, minutes: &[u8]) -> io::Result<()> {
+    match solution.answer {
+        Answer::Found(number) => println!(rt; "found {number}")?,
+        Answer::Nothing(number) => return println!(rt; "none {number}"),
+        Answer::Spent(number) => println!(rt; "spent {number}")?,
+    }
+    for (event, minute) in (1..=solution.events).zip(minutes) {
         println!(rt; "{event} {minute}")?;
     }
     Ok(())
 }
 
-// The answer and its number, and then the timetable that was found or the floor to go on from.
-fn tell(rt: &HostRuntime, solution: Solution, minutes: &[u8]) -> io::Result<()> {
-    match solution.answer {
-        Answer::Found(number) => {
-            println!(rt; "found {number}")?;
-            tell_minutes(rt, solution.events, minutes)
-        }
-        Answer::Nothing(number) => println!(rt; "none {number}"),
-        Answer::Spent(number) => {
-            println!(rt; "spent {number}")?;
-            tell_minutes(rt, solution.events, minutes)
-        }
-    }
-}
-
 fn main(rt: HostRuntime) -> io::Result<()> {
+    // Two programs read so, each for itself: a library for it would allocate, and none does.
     let mut text = Vec::new(rt.alloc());
     rt.stdin().take(READ_MOST).read_to_end(&mut text)?;
     let mut spans = [Span::BLANK; 256];

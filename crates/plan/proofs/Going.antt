@@ -1,35 +1,24 @@
 -- A plan goes on by one call, accepted or refused.
-use Rattle.std.proofs.Common.{◌≡◌, ℕ, zero, suc, ◌-◌, ◌<◌, ◌≤◌, Bool, true, false, cond, List, [], ◌∷◌, ◌++◌, length, Some, None, Ok, Err, Option, sym, refl, ap, ◌∙◌, subst}
-use lib.Bits.{bit_and}
+use Rattle.std.proofs.Common.{◌≡◌, ℕ, ◌-◌, ◌^◌, ◌<◌, ◌≤◌, Bool, true, false, cond, ltb, leb, eqb, List, [], ◌∷◌, ◌++◌, length, Some, None, Option, Result, sym, refl, ap, ◌∙◌, subst, arith}
+use Rattle.std.proofs.lemmas.Bool.{or_parts, eqb-false, ltb-false}
 use Rattle.refusals.specs.declared.Refusal.{Refusal}
+use Rattle.refusals.specs.declared.Refusal.TheVariants.{Range, Event, Level}
 use Rattle.minutes.specs.Minutes.{at}
-use Rattle.calls.specs.Calls.{Call, allow, open_level, shut_level, Ledger, allowed, levels_of, family, is_entry, allow_refusal, open_refusal, shut_refusal, refusal, done, unless_refused, ledger}
+use Rattle.calls.specs.Calls.{Call, allow, open_level, shut_level, Ledger, allowed, is_entry, no_event, allow_refusal, open_refusal, shut_refusal, refusal, done, unless_refused, ledger}
 use Rattle.calls.specs.Replies.{reply}
 use Rattle.calls.proofs.Lists.{ledger_push}
 use Rattle.plan.specs.declared.contents.Contents.{Contents}
-use Rattle.plan.specs.Contents.{sets_of, allow_refused, put, noted, allowing}
-use Rattle.plan.proofs.Holding.{holds_allowing}
-use Rattle.plan.specs.Decided.{Shows, Holds, Decided, Onward}
-
-pub holds_shows : (n : ℕ) (p : Contents) (l : Ledger) → Holds n p l → Shows p l
-holds_shows zero p l h = h
-holds_shows (suc n) p l h = h.0
+use Rattle.plan.specs.Contents.{levels_in, entries_in, fresh, make_refusal, sets_of, allow_refused, noted, allowing, opening, shutting}
+use Rattle.plan.specs.Decided.{Shows, Holds, Decided, Onward, GoesOn, Made}
+use Rattle.plan.proofs.Holding.{holds_shows, holds_new, holds_open, holds_shut, holds_allowing}
+use Rattle.plan.proofs.Refusing.{passed}
 
 -- what the ledger of p's list is, at p's own period and events
 abbrev of_list : Contents → List Call → Ledger
 of_list p cs = ledger p.period p.events cs
 
--- the refusal said of the list is the one said of the contents
-pub same_allow : (p : Contents) (cs : List Call) (e s : ℕ) → Decided p cs → allow_refused p e s ≡ refusal p.period p.events (of_list p cs) (allow e s)
-same_allow p cs e s d =
-    let h = holds_shows p.levels p (of_list p cs) d in
-    λ i. allow_refusal p.period p.events (at (h.sets i) (e - 1)) (h.levels i) (h.entries i) e s
-
-pub same_open : (p : Contents) (cs : List Call) → Decided p cs → open_refusal p.levels ≡ refusal p.period p.events (of_list p cs) open_level
-same_open p cs d = ap open_refusal (holds_shows p.levels p (of_list p cs) d).levels
-
-pub same_shut : (p : Contents) (cs : List Call) → Decided p cs → shut_refusal p.levels ≡ refusal p.period p.events (of_list p cs) shut_level
-same_shut p cs d = ap shut_refusal (holds_shows p.levels p (of_list p cs) d).levels
+pub shows : (p : Contents) (cs : List Call) → Decided p cs → Shows p (of_list p cs)
+shows p cs d = holds_shows (levels_in p) p (of_list p cs) d
 
 still : {A : Type 0} (x : Option Refusal) (l : A) → unless_refused x l l ≡ l
 still None l = refl
@@ -39,42 +28,44 @@ still (Some e) l = refl
 pub onward_still : (p : Contents) (c : Call) (cs : List Call) → done p.period p.events (length cs) (of_list p cs) c ≡ of_list p cs → Decided p cs → Decided p (cs ++ c ∷ [])
 onward_still p c cs same d =
     let x = refusal p.period p.events (of_list p cs) c in
-    subst (λ l. Holds p.levels p l) (sym (ledger_push p.period p.events cs c ∙ ap (λ l. unless_refused x l (of_list p cs)) same ∙ still x (of_list p cs))) d
+    subst (λ l. Holds (levels_in p) p l) (sym (ledger_push p.period p.events cs c ∙ ap (λ l. unless_refused x l (of_list p cs)) same ∙ still x (of_list p cs))) d
 
-module _ (p : Contents) (c : Call) (cs : List Call) (d : Decided p cs) (x : Option Refusal) (same : x ≡ refusal p.period p.events (of_list p cs) c) where
-  pushed : ledger p.period p.events (cs ++ c ∷ []) ≡ unless_refused x (done p.period p.events (length cs) (of_list p cs) c) (of_list p cs)
-  pushed = ledger_push p.period p.events cs c ∙ ap (λ z. unless_refused z (done p.period p.events (length cs) (of_list p cs) c) (of_list p cs)) (sym same)
+-- what an accepted call c makes of the contents p: new ones, which hold what c makes of the ledger
+record Accepted (p : Contents) (c : Call) (new : Contents) (x : Option Refusal) (cs : List Call) : Type 0 where
+  refusal : x ≡ refusal p.period p.events (of_list p cs) c
+  holds : x ≡ None → Holds (levels_in new) new (done p.period p.events (length cs) (of_list p cs) c)
 
-  -- a refused call stands in the list and changes nothing
-  pub onward_refused : (e : Refusal) → x ≡ Some e → Onward p c p (Err e) cs
-  onward_refused e is = record {
-    plan = subst (λ l. Holds p.levels p l) (sym (pushed ∙ ap (λ z. unless_refused z (done p.period p.events (length cs) (of_list p cs) c) (of_list p cs)) is)) d;
-    answer = ap (λ z. reply z tt) (sym is ∙ same);
-  }
-
-  -- an accepted one changes what stands
-  pub onward_done : (q : Contents) → x ≡ None → q.period ≡ p.period → q.events ≡ p.events → Holds q.levels q (done p.period p.events (length cs) (of_list p cs) c) → Onward p c q (Ok tt) cs
-  onward_done q is T E h = record {
-    plan = subst (λ l. Holds q.levels q l) (sym ((λ i. ledger (T i) (E i) (cs ++ c ∷ [])) ∙ pushed ∙ ap (λ z. unless_refused z (done p.period p.events (length cs) (of_list p cs) c) (of_list p cs)) is)) h;
-    answer = ap (λ z. reply z tt) (sym is ∙ same);
-  }
-
--- an accepted allow, where q was p with the entry noted if it is one
-module _ (p q : Contents) (e s : ℕ) (b : Bool) (low : 0 < e) (high : e ≤ p.events) (is_b : is_entry p.levels (at (sets_of p) (e - 1)) s ≡ b)
-    (room : b ≡ true → p.entries < length p.trail) (is_q : q ≡ cond b (noted (e - 1) p) p) where
-  pub allowed_is : put (e - 1) (bit_and (at p.allowed (e - 1)) s) q ≡ allowing e s p
-  allowed_is = ap (put (e - 1) (bit_and (at p.allowed (e - 1)) s)) (is_q ∙ ap (λ z. cond z (noted (e - 1) p) p) (sym is_b))
-
-  pub allowed_on : (cs : List Call) → Decided p cs → allow_refused p e s ≡ None → Onward p (allow e s) (put (e - 1) (bit_and (at p.allowed (e - 1)) s) q) (Ok tt) cs
-  allowed_on cs d none =
-      let h = holds_shows p.levels p (of_list p cs) d in
-      let same : b ≡ is_entry (levels_of (of_list p cs)) (at (family p.period p.events (of_list p cs)) (e - 1)) s = sym is_b ∙ (λ i. is_entry (h.levels i) (at (h.sets i) (e - 1)) s) in
-      subst (λ z. Onward p (allow e s) (put (e - 1) (bit_and (at p.allowed (e - 1)) s) z) (Ok tt) cs) (sym is_q)
-      (onward_done p (allow e s) cs d _ (same_allow p cs e s d) (put (e - 1) (bit_and (at p.allowed (e - 1)) s) (cond b (noted (e - 1) p) p)) none (period b) (events b)
-      (subst (λ n. Holds n (put (e - 1) (bit_and (at p.allowed (e - 1)) s) (cond b (noted (e - 1) p) p)) (done p.period p.events (length cs) (of_list p cs) (allow e s))) (sym (levels b))
-      (subst (λ z. Holds p.levels (put (e - 1) (bit_and (at p.allowed (e - 1)) s) (cond b (noted (e - 1) p) p)) (allowed (length cs) e s z ∷ of_list p cs)) same
-      (holds_allowing p (of_list p cs) (length cs) e s low high b is_b room d))))
+-- a refused call stands in the list and changes nothing, and an accepted one changes what stands
+module _ (p : Contents) (c : Call) (new : Contents) (same_period : new.period ≡ p.period) (same_events : new.events ≡ p.events) where
+  goes_on : (x : Option Refusal) → ((cs : List Call) → Decided p cs → Accepted p c new x cs) → (q : Contents) (r : Result (Unit {0}) Refusal)
+      → r ≡ reply x tt → q ≡ unless_refused x new p → GoesOn p c q r
+  goes_on x h q r answer plan cs d = subst (λ z. Onward p c z r cs) (sym plan) (record { plan = go x (h cs d); answer = answer ∙ ap (λ z. reply z tt) (h cs d).refusal })
     where
+      pushed : (z : Option Refusal) → z ≡ refusal p.period p.events (of_list p cs) c → ledger p.period p.events (cs ++ c ∷ []) ≡ unless_refused z (done p.period p.events (length cs) (of_list p cs) c) (of_list p cs)
+      pushed z same = ledger_push p.period p.events cs c ∙ ap (λ z. unless_refused z (done p.period p.events (length cs) (of_list p cs) c) (of_list p cs)) (sym same)
+
+      go : (z : Option Refusal) → Accepted p c new z cs → Decided (unless_refused z new p) (cs ++ c ∷ [])
+      go None a = subst (λ l. Holds (levels_in new) new l) (sym ((λ i. ledger (same_period i) (same_events i) (cs ++ c ∷ [])) ∙ pushed None a.refusal)) (a.holds refl)
+      go (Some e) a = subst (λ l. Holds (levels_in p) p l) (sym (pushed (Some e) a.refusal)) d
+
+pub made_on : (p q : Contents) (T E : ℕ) → q ≡ unless_refused (make_refusal T E) (fresh T E) p → Made (make_refusal T E) p q
+made_on p q T E plan = go (make_refusal T E) refl plan
+  where
+    go : (x : Option Refusal) → make_refusal T E ≡ x → q ≡ unless_refused x (fresh T E) p → Made x p q
+    go None is e =
+        let tests = or_parts (ltb T 2) _ (passed _ Range None is).0 in
+        let most = (or_parts (ltb E 1) _ (or_parts (ltb 64 T) _ tests.1).1).1 in
+        subst (λ z. Decided z []) (sym e) (holds_new T E (ltb-false 256 E most))
+    go (Some z) is e = λ cs d. subst (λ z. Decided z cs) (sym e) d
+
+module _ (p q : Contents) (r : Result (Unit {0}) Refusal) where
+  pub allow_on : (e s : ℕ) → (0 < levels_in p → at p.marks.items (levels_in p - 1) ≤ entries_in p) → r ≡ reply (allow_refused p e s) tt
+      → q ≡ unless_refused (allow_refused p e s) (allowing e s p) p → GoesOn p (allow e s) q r
+  allow_on e s mark = goes_on p (allow e s) (allowing e s p) (period entry) (events entry) (allow_refused p e s) accepted q r
+    where
+      entry : Bool
+      entry = is_entry (levels_in p) (at (sets_of p) (e - 1)) s
+
       period : (b : Bool) → (cond b (noted (e - 1) p) p).period ≡ p.period
       period true = refl
       period false = refl
@@ -83,6 +74,23 @@ module _ (p q : Contents) (e s : ℕ) (b : Bool) (low : 0 < e) (high : e ≤ p.e
       events true = refl
       events false = refl
 
-      levels : (b : Bool) → (cond b (noted (e - 1) p) p).levels ≡ p.levels
-      levels true = refl
-      levels false = refl
+      accepted : (cs : List Call) → Decided p cs → Accepted p (allow e s) (allowing e s p) (allow_refused p e s) cs
+      accepted cs d =
+          let h = shows p cs d in record {
+            refusal = λ i. allow_refusal p.period p.events (at (h.sets i) (e - 1)) (h.levels i) (h.entries i) e s;
+            holds = λ none.
+                let known = or_parts (eqb e 0) _ (passed (no_event p.events e) Event _ (passed (leb (2 ^ p.period) s) Range _ none).1).0 in
+                subst (λ z. Holds (levels_in (allowing e s p)) (allowing e s p) (allowed (length cs) e s z ∷ of_list p cs)) (λ i. is_entry (h.levels i) (at (h.sets i) (e - 1)) s)
+                (holds_allowing p (of_list p cs) (length cs) e s (omega (arith, eqb-false e 0 known.0)) (ltb-false p.events e known.1) mark d);
+          }
+
+  pub open_on : r ≡ reply (open_refusal (levels_in p)) tt → q ≡ unless_refused (open_refusal (levels_in p)) (opening p) p → GoesOn p open_level q r
+  open_on = goes_on p open_level (opening p) refl refl (open_refusal (levels_in p))
+      (λ cs d. record { refusal = ap open_refusal (shows p cs d).levels; holds = λ none. holds_open p _ _ d }) q r
+
+  pub shut_on : r ≡ reply (shut_refusal (levels_in p)) tt → q ≡ unless_refused (shut_refusal (levels_in p)) (shutting p) p → GoesOn p shut_level q r
+  shut_on = goes_on p shut_level (shutting p) refl refl (shut_refusal (levels_in p))
+      (λ cs d. record {
+        refusal = ap shut_refusal (shows p cs d).levels;
+        holds = λ none. holds_shut p _ (omega (arith, eqb-false (levels_in p) 0 (passed _ Level None none).0)) d;
+      }) q r

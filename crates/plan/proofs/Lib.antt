@@ -1,5 +1,5 @@
-pub mod Taking
+pub mod Undoing
 pub mod Holding
+pub mod Refusing
 pub mod Going
 pub mod Shaping
-pub mod Refusing

@@ -1,9 +1,9 @@
 //! What a plan answers about itself.
-ghost use Rattle.std.specs.Prelude.{◌≡◌, ◌-◌, length, if◌then◌else◌, Ok, Err};
+ghost use Rattle.std.specs.Prelude.{◌≡◌, ◌-◌, ◌<◌, ◌≤◌, IfOk, length, if◌then◌else◌, Ok, Err};
 ghost use Rattle.refusals.specs.declared.Refusal.TheVariants.{Event};
 ghost use Rattle.minutes.specs.Minutes.{at};
 ghost use Rattle.calls.specs.Calls.{no_event};
-ghost use Rattle.plan.specs.Contents.{sets_of};
+ghost use Rattle.plan.specs.Contents.{levels_in, entries_in, sets_of};
 
 use crate::Plan;
 use refusals::Refusal;
@@ -23,14 +23,23 @@ impl Plan {
         self.contents.events
     }
 
+    // The place of the event's set in the family. Event where there is no such event.
+    pub fn place_of(&self, event: u16) -> Result<usize, Refusal>
+        ensures answer { result ≡ (if no_event self.now.contents.events event then Err Event else Ok (event - 1)) }
+        ensures place { IfOk result (λ place. place < self.now.contents.events) }
+    {
+        if !(1..=self.events()).contains(&event) {
+            return Err(Refusal::Event);
+        }
+        Ok((event - 1) as usize)
+    }
+
     // The minutes that the event is allowed. Event where there is no such event.
     pub fn allowed(&self, event: u16) -> Result<u64, Refusal>
         ensures { result ≡ (if no_event self.now.contents.events event then Err Event else Ok (at (sets_of self.now.contents) (event - 1))) }
     {
-        if event == 0 || event > self.events() {
-            return Err(Refusal::Event);
-        }
-        Ok(self.contents.allowed[(event - 1) as usize])
+        let place = self.place_of(event)?;
+        Ok(self.contents.allowed[place])
     }
 
     // The minutes that each event is allowed, from event 1 on.
@@ -44,15 +53,17 @@ impl Plan {
 
     // How many levels are open.
     pub fn levels(&self) -> usize
-        ensures { result ≡ self.now.contents.levels }
+        ensures value { result ≡ levels_in self.now.contents }
+        ensures most { result ≤ 16 }
     {
-        self.contents.levels
+        self.contents.marks.len()
     }
 
     // How many entries the open levels have.
     pub fn entries(&self) -> usize
-        ensures { result ≡ self.now.contents.entries }
+        ensures value { result ≡ entries_in self.now.contents }
+        ensures most { result ≤ 1024 }
     {
-        self.contents.entries
+        self.contents.trail.len()
     }
 }

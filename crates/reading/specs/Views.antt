@@ -9,6 +9,10 @@ use Rattle.reading.specs.Readings.{Reading}
 abbrev pub tallied : Tally → Reading
 tallied t = record { period = t.heading.period; events = t.heading.events; spans = t.spans; journeys = t.journeys }
 
+abbrev pub tallied_result : Result Tally Fault → Result Reading Fault
+tallied_result (Ok t) = Ok (tallied t)
+tallied_result (Err f) = Err f
+
 abbrev pub opened : OpenReading → Reading
 opened o = tallied o.tally
 

@@ -19,37 +19,34 @@ fn escaped(letter: u8) -> u8 {
     }
 }
 
-// The text that a line writes.
+// The text that a line writes. A backslash with no letter behind it writes nothing.
 fn text_of(heap: Global, line: &[u8]) -> Result<Vec<u8>, AllocError> {
     let mut text = Vec::new(heap);
-    let mut behind = false;
-    for c in line {
-        if behind {
-            text.push(escaped(*c))?;
-            behind = false;
-        } else if *c == b'\\' {
-            behind = true;
-        } else {
-            text.push(*c)?;
-        }
+    let mut rest = line;
+    // No range ends it: an escape takes two bytes.
+    loop {
+        let (byte, behind) = match rest {
+            [] | [b'\\'] => return Ok(text),
+            [b'\\', letter, behind @ ..] => (escaped(*letter), behind),
+            [byte, behind @ ..] => (*byte, behind),
+        };
+        text.push(byte)?;
+        rest = behind;
     }
-    Ok(text)
 }
+
+const HEADING: &[u8] = b"T;10;3\n";
 
 // A heading, and so many bytes of comment behind it that the text has `length` bytes.
 fn long_text(heap: Global, length: usize) -> Result<Vec<u8>, AllocError> {
-    let mut text = Vec::new(heap);
-    text.extend_from_slice(b"T;10;3\n")?;
-    for _ in 7..length {
-        text.push(b'#')?;
-    }
+    let mut text = HEADING.to_vec(heap)?;
+    text.resize(length, b'#')?;
     Ok(text)
 }
 
 // A heading and so many equal spans.
 fn many_spans(heap: Global, count: usize) -> Result<Vec<u8>, AllocError> {
-    let mut text = Vec::new(heap);
-    text.extend_from_slice(b"T;10;3\n")?;
+    let mut text = HEADING.to_vec(heap)?;
     for _ in 0..count {
         text.extend_from_slice(b"1;1;2;3;5;1\n")?;
     }
@@ -80,28 +77,13 @@ fn main(rt: HostRuntime) -> io::Result<()> {
         tell_line(&rt, line.as_str())?;
     }
     let mut spans = [Span::BLANK; 300];
-    tell(
-        &rt,
-        "60,000 bytes",
-        long_text(rt.alloc(), 60_000)?.as_slice(),
-        &mut spans,
-    )?;
-    tell(
-        &rt,
-        "60,001 bytes",
-        long_text(rt.alloc(), 60_001)?.as_slice(),
-        &mut spans,
-    )?;
-    tell(
-        &rt,
-        "256 spans",
-        many_spans(rt.alloc(), 256)?.as_slice(),
-        &mut spans,
-    )?;
-    tell(
-        &rt,
-        "257 spans",
-        many_spans(rt.alloc(), 257)?.as_slice(),
-        &mut spans,
-    )
+    for (name, text) in [
+        ("60,000 bytes", long_text(rt.alloc(), 60_000)?),
+        ("60,001 bytes", long_text(rt.alloc(), 60_001)?),
+        ("256 spans", many_spans(rt.alloc(), 256)?),
+        ("257 spans", many_spans(rt.alloc(), 257)?),
+    ] {
+        tell(&rt, name, text.as_slice(), &mut spans)?;
+    }
+    Ok(())
 }

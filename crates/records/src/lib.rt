@@ -14,7 +14,8 @@ pub struct Span {
     pub place: (usize, usize),
 }
 
-// A journey: the legs between the first `count` events of `chain` take at most `cap` minutes together.
+// A journey: the legs between the first `count` events of `chain` take at most `cap` minutes together. The caller's table
+// holds it, so the chain is an array with a count, and nothing is on the heap.
 #[derive(Clone, Copy, PartialEq, Eq, Debug)]
 pub struct Journey {
     pub index: u16,

@@ -8,36 +8,26 @@ ghost use Rattle.relations.specs.Joins.{JoinsAreLawful};
 ghost use Rattle.relations.specs.Conditions.{SpanIsPeriodic, WorkedExamples};
 
 // Exact narrowing keeps every law, whatever the condition and the named events.
-pub fn exact_narrowing_is_lawful() -> u8
+pub fn exact_narrowing_is_lawful()
     ensures { ExactIsLawful }
-{
-    0
-}
+{}
 
 // Exact narrowing keeps a minute exactly where the named events have minutes, this one among them, that meet the condition.
-pub fn exact_narrowing_in_words() -> u8
+pub fn exact_narrowing_in_words()
     ensures { ExactInWords }
-{
-    0
-}
+{}
 
 // Joined and waived meanings keep the laws that their parts keep.
-pub fn joins_are_lawful() -> u8
+pub fn joins_are_lawful()
     ensures { JoinsAreLawful }
-{
-    0
-}
+{}
 
 // A span is the constraint of periodic event scheduling.
-pub fn span_is_periodic() -> u8
+pub fn span_is_periodic()
     ensures { SpanIsPeriodic }
-{
-    0
-}
+{}
 
 // Worked examples of the conditions.
-pub fn worked_examples_stand() -> u8
+pub fn worked_examples_stand()
     ensures { WorkedExamples }
-{
-    0
-}
+{}

@@ -1,12 +1,12 @@
-//! What is told of a reading, in words.
+//! What is told of a reading, in words. The types told of are of other crates, so Display stands on newtypes.
 #![tactic(auto)]
 
 ghost use Rattle.report.specs.Lines.{refused_line};
-ghost use Rattle.std.specs.Prelude.{Some};
+ghost use Rattle.std.specs.Prelude.{◌≡◌, Some};
 
 use reading::readings::ClosedReading;
 use records::{Journey, Span};
-use refusals::Fault;
+use refusals::{Fault, Refusal};
 use std::fmt;
 
 // A fault, as the line that a refusal is told by.
@@ -22,6 +22,15 @@ impl fmt::Display for Refused {
         let field = fault.field;
         let (offset, length) = fault.place;
         write!(f, "refused {number} {field} {offset} {length}")
+    }
+}
+
+// A refusal of a call that reads no line: no field is at fault, and the place is empty.
+impl From<Refusal> for Refused {
+    ghost from_gives = { λ r told. told.0 ≡ record { refusal = r; field = 0; place = (0, 0) } };
+
+    fn from(refusal: Refusal) -> Refused {
+        Refused(refusal.into())
     }
 }
 
@@ -70,21 +79,12 @@ pub struct JourneyWords(pub Journey);
 
 impl fmt::Display for JourneyWords {
     fn fmt<W: fmt::Write>(&self, f: &mut fmt::Formatter<W>) -> fmt::Result {
-        let Journey {
-            index,
-            cap,
-            count,
-            chain,
-            place: _,
-        } = self.0;
-        write!(f, "journey {index}: the legs between events")?;
-        for i in 0..6usize {
-            if i < count as usize {
-                let event = chain[i];
-                write!(f, " {event}")?;
-            }
+        let JourneyWords(journey) = self;
+        write!(f, "journey {}: the legs between events", journey.index)?;
+        for event in journey.chain.iter().take(usize::from(journey.count)) {
+            write!(f, " {event}")?;
         }
-        write!(f, " take at most {cap} minutes together")
+        write!(f, " take at most {} minutes together", journey.cap)
     }
 }
 
@@ -98,10 +98,8 @@ impl fmt::Display for MinuteWords {
         if set == 0 {
             return write!(f, " none");
         }
-        for minute in 0..64u32 {
-            if (set >> minute) % 2 == 1 {
-                write!(f, " {minute}")?;
-            }
+        for minute in (0..64).filter(|minute| (set >> minute) % 2 == 1) {
+            write!(f, " {minute}")?;
         }
         Ok(())
     }

@@ -4,7 +4,7 @@
 ghost use Rattle.rest.specs.Theory.{OneRest, AnyOrder, SomeOrder, NoneLost, SinglesMeet, RestAgain, RestGrows};
 
 // The theory of rests, for every meaning that keeps its laws.
-pub fn theory_of_rest() -> u8
+pub fn theory_of_rest()
     ensures one { OneRest }
     ensures order { AnyOrder }
     ensures exists { SomeOrder }
@@ -12,6 +12,4 @@ pub fn theory_of_rest() -> u8
     ensures singles { SinglesMeet }
     ensures again { RestAgain }
     ensures grows { RestGrows }
-{
-    0
-}
+{}

@@ -17,8 +17,8 @@ use Rattle.search.specs.declared.Answer.{Answer}
 use Rattle.search.specs.Theorems.{problem}
 use Rattle.find.specs.Outcome.{Outcome}
 use Rattle.find.specs.Onward.{GoesOn as FindGoesOn}
-use Rattle.runs.specs.declared.requests.Reply.{Reply}
-use Rattle.runs.specs.declared.requests.Reply.TheVariants.{Refused, Accepted, Minutes, Answered}
+use Rattle.runs.specs.Requests.{Reply}
+use Rattle.runs.specs.declared.requests.Done.TheVariants.{Accepted, Minutes, Answered}
 use Rattle.runs.specs.declared.requests.Action.{Action}
 use Rattle.runs.specs.Requests.{asked, of_change, of_left, of_find}
 use Rattle.runs.specs.Law.{Answers, RightReply}
@@ -41,7 +41,7 @@ pub some_none : (x : Option Refusal) (f : Refusal) → x ≡ Some f → x ≡ No
 some_none x f a b = let z : ◌≡◌ {A = ℕ} 0 1 = cc in omega arith
 
 module _ (T E : ℕ) (l : Ledger) (c : Call) (old new : List ℕ) (r : Reply) where
-  right_refused : (f : Refusal) → refusal T E l c ≡ Some f → r ≡ Refused f → new ≡ old → RightReply T E l c old new r
+  right_refused : (f : Refusal) → refusal T E l c ≡ Some f → r ≡ Err f → new ≡ old → RightReply T E l c old new r
   right_refused f is e k = record {
     refused = λ g u. cc;
     refused_only = λ g u. cc;
@@ -49,7 +49,7 @@ module _ (T E : ℕ) (l : Ledger) (c : Call) (old new : List ℕ) (r : Reply) wh
     accepted = λ u. absurd (some_none _ f is u);
   }
 
-  pub right_accepted : refusal T E l c ≡ None → ((g : Refusal) → r ≡ Refused g → ⊥) → Answers T E l c old new r → RightReply T E l c old new r
+  pub right_accepted : refusal T E l c ≡ None → ((g : Refusal) → r ≡ Err g → ⊥) → Answers T E l c old new r → RightReply T E l c old new r
   right_accepted is no_refusal h = record {
     refused = λ g u. absurd (some_none _ g u is);
     refused_only = λ g u. absurd (no_refusal g u);
@@ -59,14 +59,14 @@ module _ (T E : ℕ) (l : Ledger) (c : Call) (old new : List ℕ) (r : Reply) wh
 
 -- an allow, an open or a shut
 right_change : (T E : ℕ) (l : Ledger) (c : Call) (buffer : List ℕ) (r : Result (Unit {0}) Refusal) →
-    ((s : Reply) → s ≡ Accepted → Answers T E l c buffer buffer s) → Came (refusal T E l c) (λ _. Unit {0}) r → RightReply T E l c buffer buffer (of_change r)
+    ((s : Reply) → s ≡ Ok Accepted → Answers T E l c buffer buffer s) → Came (refusal T E l c) (λ _. Unit {0}) r → RightReply T E l c buffer buffer (of_change r)
 right_change T E l c buffer r h (failed f is e) = right_refused T E l c buffer buffer (of_change r) f is (ap of_change e) refl
 right_change T E l c buffer r h (went v is e u) =
-    let a : of_change r ≡ Accepted = ap of_change e in
+    let a : of_change r ≡ Ok Accepted = ap of_change e in
     right_accepted T E l c buffer buffer (of_change r) is (λ g b. let z : ◌≡◌ {A = ℕ} 0 1 = cc in omega arith) (h (of_change r) a)
 
 pub change_on : (p : Contents) (c : Call) (q : Contents) (buffer : List ℕ) (r : Result (Unit {0}) Refusal) → q.period ≡ p.period → q.events ≡ p.events →
-    ((l : Ledger) (s : Reply) → s ≡ Accepted → Answers p.period p.events l c buffer buffer s) → PlanGoesOn p c q r → GoesOn p c q buffer buffer (of_change r)
+    ((l : Ledger) (s : Reply) → s ≡ Ok Accepted → Answers p.period p.events l c buffer buffer s) → PlanGoesOn p c q r → GoesOn p c q buffer buffer (of_change r)
 change_on p c q buffer r T E h g = record {
   period = T;
   events = E;
@@ -102,7 +102,7 @@ right_left : (T E : ℕ) (l : Ledger) (m : Meaning) (e w : ℕ) (buffer : List �
     Came (refusal T E l (left m e w)) (Left m (family T E l) e) r → RightReply T E l (left m e w) buffer buffer (of_left r)
 right_left T E l m e w buffer r (failed f is q) = right_refused T E l (left m e w) buffer buffer (of_left r) f is (ap of_left q) refl
 right_left T E l m e w buffer r (went v is q h) =
-    let a : of_left r ≡ Minutes v = ap of_left q in
+    let a : of_left r ≡ Ok (Minutes v) = ap of_left q in
     right_accepted T E l (left m e w) buffer buffer (of_left r) is (λ g b. let z : ◌≡◌ {A = ℕ} 0 1 = cc in omega arith) (v, a, h, refl)
 
 pub left_on : (p : Contents) (m : Meaning) (e w : ℕ) (buffer : List ℕ) (r : Result ℕ Refusal) → ((cs : List Call) → Decided p cs → LeftOnward p m e w r cs) → GoesOn p (left m e w) p buffer buffer (of_left r)
@@ -120,7 +120,7 @@ right_find : (T E : ℕ) (l : Ledger) (m : Meaning) (floor : List ℕ) (budget n
     RightReply T E l (find m floor budget n w) old new (of_find r)
 right_find T E l m floor budget n w old new r k (failed f is q) = right_refused T E l (find m floor budget n w) old new (of_find r) f is (ap of_find q) (k f is)
 right_find T E l m floor budget n w old new r k (went v is q h) =
-    let a : of_find r ≡ Answered v = ap of_find q in
+    let a : of_find r ≡ Ok (Answered v) = ap of_find q in
     right_accepted T E l (find m floor budget n w) old new (of_find r) is (λ g b. let z : ◌≡◌ {A = ℕ} 0 1 = cc in omega arith) (v, a, h)
 
 find_on_old : (p : Contents) (m : Meaning) (floor : List ℕ) (budget w : ℕ) (old new : List ℕ) (r : Result Answer Refusal) → FindGoesOn p m floor budget old new w r →

@@ -1,5 +1,5 @@
 -- The law holds over every list whose calls have their replies.
-use Rattle.std.proofs.Common.{◌≡◌, ℕ, zero, suc, ◌+◌, ◌*◌, ◌<◌, ◌≤◌, ◌⊎◌, List, [], ◌∷◌, length, take, drop, Some, None, Option, sym, refl, ap, ◌∙◌, subst, inl, inr, arith}
+use Rattle.std.proofs.Common.{◌≡◌, ℕ, zero, suc, ◌+◌, ◌*◌, ◌<◌, ◌≤◌, ◌⊎◌, List, [], ◌∷◌, length, take, drop, Some, None, Option, sym, refl, ap, ◌∙◌, subst, inl, inr, arith, Ok, Err}
 use Rattle.std.proofs.lemmas.List.{length-take, length-drop}
 use Rattle.refusals.specs.declared.Refusal.{Refusal}
 use Rattle.relations.specs.Meaning.{Meaning, Laws}
@@ -14,8 +14,8 @@ use Rattle.search.specs.Theorems.{problem, SameMeaning, added, MustAnswer}
 use Rattle.search.proofs.Living.{some_way}
 use Rattle.search.proofs.Proved.{resuming}
 use Rattle.find.specs.Outcome.{Outcome}
-use Rattle.runs.specs.declared.requests.Reply.{Reply}
-use Rattle.runs.specs.declared.requests.Reply.TheVariants.{Refused, Answered}
+use Rattle.runs.specs.Requests.{Reply}
+use Rattle.runs.specs.declared.requests.Done.TheVariants.{Answered}
 use Rattle.runs.specs.declared.requests.Action.{Action}
 use Rattle.runs.specs.declared.requests.Action.TheVariants.{Allow, Open, Shut, Left, Find}
 use Rattle.runs.specs.declared.requests.Request.{Request}
@@ -36,8 +36,8 @@ module _ (T E : ℕ) (least : 2 ≤ T) (most : T ≤ 64) (some : 1 ≤ E) (many 
   module _ (i : ℕ) (m : Meaning) (floor : List ℕ) (budget : ℕ) (a : Answer) (f : FindAt cs replies i m floor budget a) where
     accepted : refusal T E (stood T E cs i) (call_at cs i) ≡ None
     accepted = elim (either (refusal T E (stood T E cs i) (call_at cs i))) [
-      | inl x ↦ let u : reply_at replies i ≡ Refused x.0 = (right.each i f.inside).refused x.0 x.1 in
-          let v : reply_at replies i ≡ Answered a = f.answered in
+      | inl x ↦ let u : reply_at replies i ≡ Err x.0 = (right.each i f.inside).refused x.0 x.1 in
+          let v : reply_at replies i ≡ Ok (Answered a) = f.answered in
           let z : ◌≡◌ {A = ℕ} 0 1 = cc in absurd (omega arith)
       | inr x ↦ x
     ]
@@ -46,8 +46,8 @@ module _ (T E : ℕ) (least : 2 ≤ T) (most : T ≤ 64) (some : 1 ≤ E) (many 
     outcome =
         let h : Answers T E (stood T E cs i) (find m floor budget f.buffer f.workspace) (places E old i) (places E new i) (reply_at replies i) =
         subst (λ c. Answers T E (stood T E cs i) c (places E old i) (places E new i) (reply_at replies i)) f.is ((right.each i f.inside).accepted accepted) in
-        let u : reply_at replies i ≡ Answered h.0 = h.1 in
-        let v : reply_at replies i ≡ Answered a = f.answered in
+        let u : reply_at replies i ≡ Ok (Answered h.0) = h.1 in
+        let v : reply_at replies i ≡ Ok (Answered a) = f.answered in
         let e : h.0 ≡ a = cc in
         subst (λ z. Outcome (problem m (allowed_at T E cs i)) floor budget (places E old i) (places E new i) z) e h.2
 

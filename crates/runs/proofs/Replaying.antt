@@ -7,7 +7,7 @@ use Rattle.calls.specs.Calls.{Call, or_else, unless_refused}
 use Rattle.calls.specs.Replies.{reply}
 use Rattle.settle.specs.Workspace.{cleared}
 use Rattle.plan.specs.Contents.{make_refusal}
-use Rattle.runs.specs.declared.requests.Reply.{Reply}
+use Rattle.runs.specs.Requests.{Reply}
 use Rattle.runs.specs.Requests.{or_then, replay_refusal, wiped}
 use Rattle.runs.specs.Law.{LawOverRuns}
 use Rattle.runs.specs.Onward.{Lent}

@@ -1,6 +1,6 @@
 -- A list of calls that is under way.
 use borrow.Rule.Slice.PartMut.{put_mid}
-use Rattle.std.proofs.Common.{◌≡◌, ℕ, suc, ◌+◌, ◌*◌, ◌<◌, ◌≤◌, ◌≢◌, List, [], length, take, drop, set, sym, refl, ap, ◌∙◌, subst, inl, inr, mul-le-mul_right, suc-mul, add-one, arith}
+use Rattle.std.proofs.Common.{◌≡◌, ℕ, suc, ◌+◌, ◌*◌, ◌<◌, ◌≤◌, ◌≢◌, List, [], length, take, drop, set, sym, refl, ap, ◌∙◌, subst, inl, inr, mul-le-mul_right, suc-mul, add-one, arith, Ok}
 use Rattle.std.proofs.lemmas.Bool.{cases_lt}
 use Rattle.std.proofs.lemmas.List.{take_more, drop-take, drop-drop, drop_at, drop-set-lt, get_or-set_same, get_or-set_other, length-take}
 use Rattle.std.proofs.lemmas.Slice.{take-put_mid_below, take-put_mid, drop-put_mid}
@@ -8,8 +8,8 @@ use Rattle.calls.specs.Calls.{Call, open_level, ledger}
 use Rattle.calls.specs.Standing.{call_at}
 use Rattle.plan.specs.declared.contents.Contents.{Contents}
 use Rattle.plan.specs.Decided.{Decided}
-use Rattle.runs.specs.declared.requests.Reply.{Reply}
-use Rattle.runs.specs.declared.requests.Reply.TheVariants.{Accepted}
+use Rattle.runs.specs.Requests.{Reply}
+use Rattle.runs.specs.declared.requests.Done.TheVariants.{Accepted}
 use Rattle.runs.specs.Law.{places, reply_at, stood, RightReply, RightReplies}
 use Rattle.runs.specs.Onward.{GoesOn, Lent}
 
@@ -71,12 +71,12 @@ module _ (T E : ℕ) (cs : List Call) (i : ℕ) (p q : Contents) (before replies
 
   here : RightReply T E (stood T E cs i) (call_at cs i) (places E old i) (places E (put_mid (i * E) E new x) i) (reply_at (set replies i r) i)
   here = same_right p.period T p.events E (take i cs) (call_at cs i) (places E new i) (places E old i) x _ r _ run.period run.events
-      (ap (take E) run.beyond) (sym (places_here E i new x fits len)) (sym (get_or-set_same replies i r Accepted (omega arith))) (on.onward (take i cs) run.plan).reply
+      (ap (take E) run.beyond) (sym (places_here E i new x fits len)) (sym (get_or-set_same replies i r (Ok Accepted) (omega arith))) (on.onward (take i cs) run.plan).reply
 
   earlier : (k : ℕ) → k < i → RightReply T E (stood T E cs k) (call_at cs k) (places E old k) (places E (put_mid (i * E) E new x) k) (reply_at (set replies i r) k)
   earlier k h =
       let ne : k ≢ i = omega arith in
-      subst (λ z. RightReply T E (stood T E cs k) (call_at cs k) (places E old k) (places E (put_mid (i * E) E new x) k) z) (sym (get_or-set_other replies i k r Accepted ne))
+      subst (λ z. RightReply T E (stood T E cs k) (call_at cs k) (places E old k) (places E (put_mid (i * E) E new x) k) z) (sym (get_or-set_other replies i k r (Ok Accepted) ne))
       (subst (λ z. RightReply T E (stood T E cs k) (call_at cs k) (places E old k) z (reply_at replies k)) (sym (places_before E i new x fits len k h)) (run.each k h))
 
   ran : Running T E cs (i + 1) q before (set replies i r) old (put_mid (i * E) E new x) w u

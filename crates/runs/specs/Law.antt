@@ -1,6 +1,6 @@
 -- The law over runs: what is true of every list of calls on a new plan of period T and E events, of what they replied, and of
 -- the timetables that they wrote, E places for each call.
-use Rattle.std.specs.Prelude.{◌≡◌, ℕ, ◌+◌, ◌*◌, ◌<◌, List, [], length, take, drop, Some, None, slice_index_or}
+use Rattle.std.specs.Prelude.{◌≡◌, ℕ, ◌+◌, ◌*◌, ◌<◌, List, [], length, take, drop, Some, None, slice_index_or, Ok, Err}
 use Rattle.refusals.specs.declared.Refusal.{Refusal}
 use Rattle.relations.specs.Meaning.{Meaning, Laws}
 use Rattle.rest.specs.Rest.{Left}
@@ -12,8 +12,8 @@ use Rattle.search.specs.Search.{Problem, Way}
 use Rattle.search.specs.InWords.{EarliestOrNone, TheNumber}
 use Rattle.search.specs.Theorems.{problem, SameMeaning, added, MustAnswer}
 use Rattle.find.specs.Outcome.{Outcome}
-use Rattle.runs.specs.declared.requests.Reply.{Reply}
-use Rattle.runs.specs.declared.requests.Reply.TheVariants.{Refused, Accepted, Minutes, Answered}
+use Rattle.runs.specs.Requests.{Reply}
+use Rattle.runs.specs.declared.requests.Done.TheVariants.{Accepted, Minutes, Answered}
 
 -- the places of call i among the timetables
 abbrev pub places : ℕ → List ℕ → ℕ → List ℕ
@@ -21,7 +21,7 @@ places E timetables i = take E (drop (i * E) timetables)
 
 -- the reply to call i, for i below the number of calls
 abbrev pub reply_at : List Reply → ℕ → Reply
-reply_at replies i = slice_index_or replies i Accepted
+reply_at replies i = slice_index_or replies i (Ok Accepted)
 
 -- what stands when call i comes: what the calls before it decide
 abbrev pub stood : ℕ → ℕ → List Call → ℕ → Ledger
@@ -35,17 +35,17 @@ allowed_at T E cs i = family T E (stood T E cs i)
 -- left gives the event's set in the rest of the allowed family, which exists, or 0 where a set of that rest is empty; a find
 -- gives its answer. Only a find writes.
 abbrev pub Answers : ℕ → ℕ → Ledger → Call → List ℕ → List ℕ → Reply → Type 0
-Answers T E l (allow e s) old new r = (r ≡ Accepted) × (new ≡ old)
-Answers T E l open_level old new r = (r ≡ Accepted) × (new ≡ old)
-Answers T E l shut_level old new r = (r ≡ Accepted) × (new ≡ old)
-Answers T E l (left m e w) old new r = (s : ℕ) × (r ≡ Minutes s) × Left m (family T E l) e s × (new ≡ old)
-Answers T E l (find m floor budget b w) old new r = (a : Answer) × (r ≡ Answered a) × Outcome (problem m (family T E l)) floor budget old new a
+Answers T E l (allow e s) old new r = (r ≡ Ok Accepted) × (new ≡ old)
+Answers T E l open_level old new r = (r ≡ Ok Accepted) × (new ≡ old)
+Answers T E l shut_level old new r = (r ≡ Ok Accepted) × (new ≡ old)
+Answers T E l (left m e w) old new r = (s : ℕ) × (r ≡ Ok (Minutes s)) × Left m (family T E l) e s × (new ≡ old)
+Answers T E l (find m floor budget b w) old new r = (a : Answer) × (r ≡ Ok (Answered a)) × Outcome (problem m (family T E l)) floor budget old new a
 
 -- the reply to a call, where l stands: refused exactly where a listed refusal applies, by the first that does, and then nothing
 -- is written; otherwise the one reply that is defined
 pub record RightReply (T E : ℕ) (l : Ledger) (c : Call) (old new : List ℕ) (r : Reply) : Type 0 where
-  pub refused : (e : Refusal) → refusal T E l c ≡ Some e → r ≡ Refused e
-  pub refused_only : (e : Refusal) → r ≡ Refused e → refusal T E l c ≡ Some e
+  pub refused : (e : Refusal) → refusal T E l c ≡ Some e → r ≡ Err e
+  pub refused_only : (e : Refusal) → r ≡ Err e → refusal T E l c ≡ Some e
   pub kept : (e : Refusal) → refusal T E l c ≡ Some e → new ≡ old
   pub accepted : refusal T E l c ≡ None → Answers T E l c old new r
 
@@ -60,7 +60,7 @@ pub record FindAt (cs : List Call) (replies : List Reply) (i : ℕ) (m : Meaning
   pub workspace : ℕ
   pub inside : i < length cs
   pub is : call_at cs i ≡ find m floor budget buffer workspace
-  pub answered : reply_at replies i ≡ Answered a
+  pub answered : reply_at replies i ≡ Ok (Answered a)
 
 -- the list that a find wrote to its places: none wrote nothing
 abbrev pub list_of : Answer → List ℕ → List ℕ

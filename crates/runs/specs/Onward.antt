@@ -4,7 +4,7 @@ use Rattle.calls.specs.Calls.{Call, ledger}
 use Rattle.settle.specs.Workspace.{cleared}
 use Rattle.plan.specs.declared.contents.Contents.{Contents}
 use Rattle.plan.specs.Decided.{Decided}
-use Rattle.runs.specs.declared.requests.Reply.{Reply}
+use Rattle.runs.specs.Requests.{Reply}
 use Rattle.runs.specs.Law.{RightReply}
 
 -- the contents p came from the calls cs, and q comes from these followed by c, whose reply is what the list says of it

@@ -2,7 +2,7 @@
 use Rattle.std.specs.Prelude.{◌≡◌, ℕ, List, length, drop, Some, None, Option}
 use Rattle.refusals.specs.declared.Refusal.{Refusal}
 use Rattle.calls.specs.Calls.{Call, unless_refused}
-use Rattle.runs.specs.declared.requests.Reply.{Reply}
+use Rattle.runs.specs.Requests.{Reply}
 use Rattle.runs.specs.Requests.{wiped}
 use Rattle.runs.specs.Law.{LawOverRuns}
 

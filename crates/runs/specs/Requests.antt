@@ -1,4 +1,4 @@
--- The calls that a list of requests makes, and the replies by what they return.
+-- The calls that a list of requests makes, and what they reply.
 use Rattle.std.specs.Prelude.{ℕ, ◌*◌, cond, ◌||◌, List, map, length, Some, None, Ok, Err, Option, Result, nat_lt}
 use Rattle.refusals.specs.declared.Refusal.{Refusal}
 use Rattle.refusals.specs.declared.Refusal.TheVariants.{Short}
@@ -10,8 +10,12 @@ use Rattle.search.specs.declared.Answer.{Answer}
 use Rattle.runs.specs.declared.requests.Action.{Action}
 use Rattle.runs.specs.declared.requests.Action.TheVariants.{Allow, Open, Shut, Left, Find}
 use Rattle.runs.specs.declared.requests.Request.{Request}
-use Rattle.runs.specs.declared.requests.Reply.{Reply}
-use Rattle.runs.specs.declared.requests.Reply.TheVariants.{Refused, Accepted, Minutes, Answered}
+use Rattle.runs.specs.declared.requests.Done.{Done}
+use Rattle.runs.specs.declared.requests.Done.TheVariants.{Accepted, Minutes, Answered}
+
+-- what a call replies: the first refusal that applies, or what it has done
+abbrev pub Reply : Type 0
+Reply = Result Done Refusal
 
 -- the call that is asked for, with a bank of this meaning, this floor, a buffer of E places and a workspace of w numbers
 abbrev pub asked : Meaning → List ℕ → (E w : ℕ) → Action → Call
@@ -44,13 +48,13 @@ abbrev pub wiped : List ℕ → List ℕ
 wiped w = cond (nat_lt (length w) 4096) w (cleared w)
 
 abbrev pub of_change : Result (Unit {0}) Refusal → Reply
-of_change (Ok u) = Accepted
-of_change (Err e) = Refused e
+of_change (Ok u) = Ok Accepted
+of_change (Err e) = Err e
 
 abbrev pub of_left : Result ℕ Refusal → Reply
-of_left (Ok s) = Minutes s
-of_left (Err e) = Refused e
+of_left (Ok s) = Ok (Minutes s)
+of_left (Err e) = Err e
 
 abbrev pub of_find : Result Answer Refusal → Reply
-of_find (Ok a) = Answered a
-of_find (Err e) = Refused e
+of_find (Ok a) = Ok (Answered a)
+of_find (Err e) = Err e

@@ -2,5 +2,4 @@
 #![tactic(auto)]
 
 pub mod replays;
-mod replies;
 pub mod requests;

@@ -1,6 +1,5 @@
 //! Replaying a list of calls on a new plan.
 ghost use Rattle.std.specs.Prelude.{◌≡◌, ◌*◌, ◌≤◌, [], length, drop};
-ghost use Rattle.bank.specs.Calls.{meant};
 ghost use Rattle.calls.specs.Replies.{reply};
 ghost use Rattle.plan.specs.Decided.{Decided};
 ghost use Rattle.runs.specs.Requests.{call_of, calls_of, replay_refusal, wiped};
@@ -8,8 +7,7 @@ ghost use Rattle.runs.specs.Law.{RightReplies};
 ghost use Rattle.runs.specs.Replayed.{Replayed};
 ghost use Rattle.runs.specs.Onward.{GoesOn, Lent};
 
-use crate::replies::{of_change, of_find, of_left};
-use crate::requests::{Action, Reply, Request};
+use crate::requests::{Action, Done, Reply, Request};
 use bank::Bank;
 use find::find;
 use left::left;
@@ -25,22 +23,23 @@ fn make_call<B: Bank>(
     workspace: &mut [u64],
 ) -> Reply
     requires { length timetable.old ≡ plan.old.contents.events }
-    ensures on { GoesOn plan.old.contents (call_of (λ b. meant (B.period b) (B.reach b) (B.relations b)) plan.old.contents.events (length workspace.old) request.now) plan.new.contents timetable.old timetable.new result }
+    ensures on { GoesOn plan.old.contents (call_of B.meaning plan.old.contents.events (length workspace.old) request.now) plan.new.contents timetable.old timetable.new result }
     ensures workspace { Lent workspace.old workspace.new }
 {
     match request.action {
-        Action::Allow { event, set } => of_change(plan.allow(event, set)),
-        Action::Open => of_change(plan.open()),
-        Action::Shut => of_change(plan.shut()),
-        Action::Left { event } => of_left(left(plan, request.bank, event, workspace)),
-        Action::Find { budget } => of_find(find(
+        Action::Allow { event, set } => plan.allow(event, set).map(|()| Done::Accepted),
+        Action::Open => plan.open().map(|()| Done::Accepted),
+        Action::Shut => plan.shut().map(|()| Done::Accepted),
+        Action::Left { event } => left(plan, request.bank, event, workspace).map(Done::Minutes),
+        Action::Find { budget } => find(
             plan,
             request.bank,
             request.floor,
             budget,
             timetable,
             workspace,
-        )),
+        )
+        .map(Done::Answered),
     }
 }
 
@@ -55,20 +54,16 @@ fn run<B: Bank>(
     requires new { Decided plan.old.contents [] }
     requires replies { length requests.now ≤ length replies.old }
     requires timetables { length requests.now * plan.old.contents.events ≤ length timetables.old }
-    ensures right { RightReplies plan.old.contents.period plan.old.contents.events (calls_of (λ b. meant (B.period b) (B.reach b) (B.relations b)) plan.old.contents.events (length workspace.old) requests.now) replies.new timetables.old timetables.new }
+    ensures right { RightReplies plan.old.contents.period plan.old.contents.events (calls_of B.meaning plan.old.contents.events (length workspace.old) requests.now) replies.new timetables.old timetables.new }
     ensures others { drop (length requests.now) replies.new ≡ drop (length requests.now) replies.old }
     ensures workspace { Lent workspace.old workspace.new }
 {
     let places = plan.events() as usize;
-    for i in 0..requests.len() {
+    // By place: of what chunks and items of lent lists hold once they are written, a proof knows nothing.
+    for (i, request) in requests.iter().enumerate() {
         let from = i * places;
-        let reply = make_call(
-            plan,
-            &requests[i],
-            &mut timetables[from..from + places],
-            workspace,
-        );
-        replies[i] = reply;
+        let timetable = &mut timetables[from..from + places];
+        replies[i] = make_call(plan, request, timetable, workspace);
     }
 }
 
@@ -96,12 +91,10 @@ pub fn replay<B: Bank>(
     workspace: &mut [u64],
 ) -> Result<(), Refusal>
     ensures answer { result ≡ reply (replay_refusal period events (length requests.now) (length replies.old) (length timetables.old)) tt }
-    ensures run { Replayed (replay_refusal period events (length requests.now) (length replies.old) (length timetables.old)) period events (calls_of (λ b. meant (B.period b) (B.reach b) (B.relations b)) events (length workspace.old) requests.now) replies.old replies.new timetables.old timetables.new workspace.old workspace.new }
+    ensures run { Replayed (replay_refusal period events (length requests.now) (length replies.old) (length timetables.old)) period events (calls_of B.meaning events (length workspace.old) requests.now) replies.old replies.new timetables.old timetables.new workspace.old workspace.new }
 {
     let mut plan = Plan::blank();
-    if let Err(refusal) = plan.make(period, events) {
-        return Err(refusal);
-    }
+    plan.make(period, events)?;
     let count = requests.len();
     if replies.len() < count || timetables.len() / (events as usize) < count {
         return Err(Refusal::Short);

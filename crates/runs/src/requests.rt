@@ -26,11 +26,9 @@ pub struct Request<'b, B> {
     pub floor: &'b [u8],
 }
 
-// What a call replies.
+// What a call that is not refused has done.
 #[derive(Clone, Copy, PartialEq, Eq, Debug)]
-pub enum Reply {
-    // the first refusal that applies
-    Refused(Refusal),
+pub enum Done {
     // an allow, an open or a shut was accepted
     Accepted,
     // the minutes that are left
@@ -38,3 +36,6 @@ pub enum Reply {
     // what a find answers; what it wrote stands in the timetables
     Answered(Answer),
 }
+
+// What a call replies: the first refusal that applies, or what it has done.
+pub type Reply = Result<Done, Refusal>;

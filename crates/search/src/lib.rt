@@ -17,7 +17,7 @@ pub enum Answer {
 // What is true of every search whose bank keeps its laws: there is a way of narrowing; there is an answer, and one only; it
 // depends neither on the way of narrowing, nor on what a floor has behind its minutes, nor on which bank of the same meaning
 // is asked; a search that is resumed adds up; and an answer is the earliest or none, with the search's number.
-pub fn theory_of_search() -> u8
+pub fn theory_of_search()
     ensures way { SomeWay }
     ensures always { AlwaysAnswers }
     ensures one { OneAnswer }
@@ -27,6 +27,4 @@ pub fn theory_of_search() -> u8
     ensures resuming { Resuming }
     ensures earliest { EarliestOrNoneHolds }
     ensures number { TheNumberHolds }
-{
-    0
-}
+{}

@@ -7,14 +7,12 @@ ghost use Rattle.solve.specs.Solved.{SearchOf, SolvedIf, start};
 
 use bank::Bank;
 use find::find;
-use pair::Pair;
+use instance::Instance;
 use plan::Plan;
 use reading::readings::ClosedReading;
 use records::{Journey, Span};
 use refusals::{Fault, Refusal};
 use search::Answer;
-use table_banks::journey_bank::JourneyBank;
-use table_banks::span_bank::SpanBank;
 
 // How many dead ends a search may pass.
 pub const BUDGET: u32 = 1_000_000;
@@ -26,31 +24,18 @@ pub struct Solution {
     pub answer: Answer,
 }
 
-// The earliest timetable of the instance that a reading has entered in the tables: its spans followed by its journeys,
-// with everything allowed, from minute 0 of every event on.
+// The earliest timetable of the instance, with everything allowed, from minute 0 of every event on.
 fn search_of(
-    reading: &ClosedReading,
-    spans: &[Span],
-    journeys: &[Journey],
+    instance: &Instance,
     timetable: &mut [u8],
     workspace: &mut [u64],
 ) -> Result<Answer, Refusal>
-    ensures { SearchOf (closed reading.now) spans.now journeys.now timetable.old timetable.new workspace.old workspace.new result }
+    ensures { SearchOf (closed instance.now.reading) instance.now.spans.now instance.now.journeys.now timetable.old timetable.new workspace.old workspace.new result }
 {
-    let mut first = SpanBank::blank();
-    first.fill(reading, spans)?;
-    let mut second = JourneyBank::blank();
-    second.fill(reading, journeys)?;
+    let bank = instance.bank()?;
     let mut plan = Plan::blank();
-    plan.make(reading.period(), reading.events())?;
-    find(
-        &plan,
-        &Pair { first, second },
-        &[0; 256],
-        BUDGET,
-        timetable,
-        workspace,
-    )
+    plan.make(instance.reading.period(), instance.reading.events())?;
+    find(&plan, &bank, &[0; 256], BUDGET, timetable, workspace)
 }
 
 // From a text to its answer: the first fault of the text, and then tables and buffers are as before; or what a search
@@ -67,23 +52,17 @@ pub fn solve(
     ensures { SolvedIf (start spans.old journeys.old text.now (length timetable.old) (length workspace.old)) spans.old spans.new journeys.old journeys.new timetable.old timetable.new workspace.old workspace.new result }
 {
     if timetable.len() < 256 || workspace.len() < 4096 {
-        return Err(Fault {
-            refusal: Refusal::Short,
-            field: 0,
-            place: (0, 0),
-        });
+        return Err(Refusal::Short.into());
     }
-    let reading = match ClosedReading::read(text, spans, journeys) {
-        Ok(reading) => reading,
-        Err(fault) => return Err(fault),
+    let reading = ClosedReading::read(text, spans, journeys)?;
+    let instance = Instance {
+        reading,
+        spans,
+        journeys,
     };
-    let events = reading.events();
-    match search_of(&reading, spans, journeys, timetable, workspace) {
-        Ok(answer) => Ok(Solution { events, answer }),
-        Err(refusal) => Err(Fault {
-            refusal,
-            field: 0,
-            place: (0, 0),
-        }),
-    }
+    let answer = search_of(&instance, timetable, workspace)?;
+    Ok(Solution {
+        events: reading.events(),
+        answer,
+    })
 }

@@ -8,14 +8,14 @@ use Rattle.relations.specs.Tables.{highest, sound}
 use Rattle.relations.proofs.Tabling.{chain_at, sound_at, table_lawful}
 use Rattle.spans.specs.Spans.{span_events, span_relations, span_in_range, Bounds, Placed}
 
-two_events : (T : ℕ) (s : Span) → span_in_range T s ≡ true → 0 < length (span_events s)
+pub two_events : (T : ℕ) (s : Span) → span_in_range T s ≡ true → 0 < length (span_events s)
 two_events T s h = omega arith
 
 pub spans_lawful : (T E : ℕ) (ss : List Span) → sound (span_in_range T) span_events E ss ≡ true →
     Laws (record { period = T; reach = highest span_events ss; relations = span_relations T ss })
 spans_lawful T E ss h = table_lawful (span_in_range T) span_events (λ s. span_met T s.lower s.upper) T E ss (two_events T) h
 
-bounds : (T : ℕ) (s : Span) → 1 ≤ T → T ≤ 64 → span_in_range T s ≡ true → Bounds T s.lower s.upper
+pub bounds : (T : ℕ) (s : Span) → 1 ≤ T → T ≤ 64 → span_in_range T s ≡ true → Bounds T s.lower s.upper
 bounds T s l g h =
     let a = and_parts (ltb 0 s.index) _ h in
     let b = and_parts (ltb s.lower T) _ a.1 in

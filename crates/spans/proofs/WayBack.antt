@@ -39,26 +39,18 @@ back_is T l w h j = elim (cases_lt (2 * T - l - w) T) [
   ]
 ]
 
--- t is m - d - k, and so t - m - l is w - d
-back_about : (T l w k d m p t r s : ℕ) → d ≤ w → w < T → Back T l w k → Round T d m p → Round T k p t → Round T m t r → Round T l r s → s ≡ w - d
-back_about T l w k d m p t r s h j e a b c f = omega (arith, e.below, a.below, b.below, c.below, f.below, e.sum, a.sum, b.sum, c.sum, f.sum)
+-- from b back to a is w - (from a to b), each less its least
+back_about : (T l w k a b p q x y : ℕ) → w < T → Back T l w k → Round T b a p → Round T k p q → Round T a b x → Round T l x y → (q ≤ w → y ≤ w) × (y ≤ w → q ≤ w)
+back_about T l w k a b p q x y h e f g i j = (
+  (λ m. omega (arith, e.below, f.below, g.below, i.below, j.below, e.sum, f.sum, g.sum, i.sum, j.sum, m)),
+  (λ m. omega (arith, e.below, f.below, g.below, i.below, j.below, e.sum, f.sum, g.sum, i.sum, j.sum, m)),
+)
 
-pub gap_back : (T l w k d m : ℕ) → l < T → w < T → d ≤ w → m < T → Back T l w k → gap T l (gap T m (gap T k (gap T d m))) ≡ w - d
-gap_back T l w k d m hl hw hd hm e =
-    let a = gap_is T d m (omega arith) hm in
-    let b = gap_is T k _ (omega (arith, e.below)) a.below in
-    let c = gap_is T m _ (omega arith) b.below in
-    let f = gap_is T l _ (omega arith) c.below in
-    back_about T l w k d m _ _ _ _ hd hw e a b c f
-
--- and the other way: where t - m - l is v, at most w, t is m - (w - v) - k
-back_here : (T l w k m t r v p s : ℕ) → v ≤ w → w < T → m < T → t < T → Back T l w k → Round T m t r → Round T l r v → Round T (w - v) m p → Round T k p s → s ≡ t
-back_here T l w k m t r v p s h j hm ht e a b c f = omega (arith, e.below, a.below, b.below, c.below, f.below, e.sum, a.sum, b.sum, c.sum, f.sum)
-
-pub gap_here : (T l w k m t : ℕ) → l < T → w < T → m < T → t < T → Back T l w k → gap T l (gap T m t) ≤ w → gap T k (gap T (w - gap T l (gap T m t)) m) ≡ t
-gap_here T l w k m t hl hw hm ht e h =
-    let a = gap_is T m t (omega arith) ht in
-    let b = gap_is T l _ (omega arith) a.below in
-    let c = gap_is T (w - gap T l (gap T m t)) m (omega arith) hm in
-    let f = gap_is T k _ (omega (arith, e.below)) c.below in
-    back_here T l w k m t _ _ _ _ h hw hm ht e a b c f
+pub gap_back : (T l w k a b : ℕ) → l < T → w < T → a < T → b < T → Back T l w k →
+    (gap T k (gap T b a) ≤ w → gap T l (gap T a b) ≤ w) × (gap T l (gap T a b) ≤ w → gap T k (gap T b a) ≤ w)
+gap_back T l w k a b hl hw ha hb e =
+    let f = gap_is T b a (omega arith) ha in
+    let g = gap_is T k _ (omega (arith, e.below)) f.below in
+    let i = gap_is T a b (omega arith) hb in
+    let j = gap_is T l _ (omega arith) i.below in
+    back_about T l w k a b _ _ _ _ hw e f g i j

@@ -12,39 +12,39 @@ pub fn lowest(set: u64, low: u8, period: u8) -> Option<u8>
     requires { period ≤ 64 }
     ensures { MatchOption result ((t : ℕ) → low ≤ t → t < period → In t set → ⊥) (λ t. Lowest set low t) }
 {
-    let mut t = low;
-    while t < period {
-        if (set >> t) & 1 == 1 {
-            return Some(t);
-        }
-        t += 1;
-    }
-    None
+    (low..period).find(
+        |&t|
+            requires { t < 64 }
+        { (set >> t) & 1 == 1 },
+    )
 }
 
-// The family, in which the first `d` events keep only their minute.
-pub fn hold(family: &[u64], minutes: &[u8], d: usize, out: &mut [u64])
+// The minutes that the first events have.
+#[derive(Clone, Copy)]
+pub struct Prefix<'a> {
+    pub list: &'a [u8],
+    pub ghost low: { (i : ℕ) → i < length list.now → at list.now i < 64 },
+}
+
+// The family, in which the first events keep only their minute of the prefix.
+pub fn hold(family: &[u64], prefix: Prefix, out: &mut [u64])
     requires family { length family.now ≡ length out.old }
-    requires minutes { length minutes.now ≡ length out.old }
-    requires below { (i : ℕ) → i < d → at minutes.now i < 64 }
-    ensures { out.new ≡ held (take d minutes.now) family.now }
+    requires short { length prefix.list.now ≤ length out.old }
+    ensures { out.new ≡ held prefix.entry.list.now family.now }
 {
-    for i in 0..out.len() {
-        if i < d {
-            out[i] = ((family[i] >> minutes[i]) & 1) << minutes[i];
-        } else {
-            out[i] = family[i];
-        }
+    out.copy_from_slice(family);
+    // By place: of what a zip with `iter_mut` writes, a proof knows nothing.
+    for (i, minute) in prefix.list.iter().enumerate() {
+        out[i] &= 1 << *minute;
     }
 }
 
 // Zeros from place `n` on.
 fn zero_from(minutes: &mut [u8], n: usize)
+    requires { n ≤ length minutes.old }
     ensures { ZerosFrom minutes.old n minutes.new }
 {
-    for j in n..minutes.len() {
-        minutes[j] = 0;
-    }
+    minutes[n..].fill(0);
 }
 
 // Goes on to the first list after all that begin with the first `d` minutes; returns the place that was raised. Where these
@@ -55,13 +55,11 @@ pub fn raise(minutes: &mut [u8], d: usize, period: u8) -> usize
     requires below { (i : ℕ) → i < d → at minutes.old i < period }
     ensures { Raised period (length minutes.old) minutes.old d result minutes.new }
 {
-    let mut i = d - 1;
-    while i > 0 && minutes[i] + 1 >= period {
-        i -= 1;
-    }
-    minutes[i] += 1;
-    zero_from(minutes, i + 1);
-    i
+    let last = period - 1;
+    let place = minutes[..d].iter().rposition(|m| *m < last).unwrap_or(0);
+    minutes[place] += 1;
+    zero_from(minutes, place + 1);
+    place
 }
 
 // Puts minute `t` at place `d`, with zeros behind where that is later.

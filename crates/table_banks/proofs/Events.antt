@@ -1,53 +1,32 @@
--- Steps of the tests of a list of events.
-use Rattle.std.proofs.Common.{◌≡◌, ℕ, ◌+◌, ◌-◌, ◌<◌, ◌≤◌, min, max, Bool, true, false, not, ◌&&◌, ◌||◌, List, length, get_or, take, drop, sym, ap, ◌∙◌, inl, inr, arith}
-use Rattle.std.proofs.lemmas.Bool.{eq-eqb, ne_eqb, cases_lt}
-use Rattle.std.proofs.lemmas.List.{at_drop_more, at_drop_all, take_all, length-drop}
+-- The tests of a list of events, and the highest of several.
+use Rattle.std.proofs.Common.{◌≡◌, ℕ, min, max, ◌||◌, eqb, List, [], ◌∷◌, length, take, sym, refl, ap, ◌∙◌, inl, inr, arith, fold}
+use Rattle.std.proofs.lemmas.Bool.{cases_lt, cases_Bool, eqb-true, eq-eqb, ne_eqb, false≢true}
+use Rattle.std.proofs.lemmas.List.{take_all}
+use Rattle.std.specs.List.{list_any}
 use Rattle.relations.specs.ExactNarrowing.{named}
-use Rattle.relations.specs.Tables.{is_event, good_events, top}
+use Rattle.relations.specs.Tables.{top, highest}
 
-module _ (e : ℕ) (xs : List ℕ) (i : ℕ) (h : named e (drop i xs) ≡ named e xs) where
-  pub named_here : i < length xs → e ≡ get_or xs i 0 → true ≡ named e xs
-  named_here l q = sym (ap (λ b. b || named e (drop (i + 1) xs)) (eq-eqb e (get_or xs i 0) q)) ∙ sym (at_drop_more (named e) xs i 0 l) ∙ h
+eqb_flip : (a b : ℕ) → eqb a b ≡ eqb b a
+eqb_flip a b = elim (cases_Bool (eqb a b)) [
+  | inl h ↦ h ∙ sym (eq-eqb b a (sym (eqb-true a b h)))
+  | inr h ↦ h ∙ sym (ne_eqb b a (λ q. false≢true (sym h ∙ eq-eqb a b (sym q))))
+]
 
-  pub named_next : i < length xs → (e ≡ get_or xs i 0 → ⊥) → named e (drop (i + 1) xs) ≡ named e xs
-  named_next l q = sym (ap (λ b. b || named e (drop (i + 1) xs)) (ne_eqb e (get_or xs i 0) q)) ∙ sym (at_drop_more (named e) xs i 0 l) ∙ h
+pub named_any : (e : ℕ) (xs : List ℕ) → list_any (λ y. eqb y e) xs ≡ named e xs
+named_any e [] = refl
+named_any e (x ∷ xs) = ap (λ b. b || list_any (λ y. eqb y e) xs) (eqb_flip x e) ∙ ap (λ b. eqb e x || b) (named_any e xs)
 
-  pub named_end : length xs ≤ i → false ≡ named e xs
-  named_end l = sym (at_drop_all (named e) xs i l) ∙ h
+pub fold_top : (xs : List ℕ) (a : ℕ) → fold max a xs ≡ max a (top xs)
+fold_top [] a = omega arith
+fold_top (x ∷ xs) a = omega (arith, fold_top xs (max a x))
 
-module _ (E : ℕ) (xs : List ℕ) (i : ℕ) (h : good_events E (drop i xs) ≡ good_events E xs) where
-  step : i < length xs → good_events E xs ≡ (is_event E (get_or xs i 0) && (not (named (get_or xs i 0) (drop (i + 1) xs)) && good_events E (drop (i + 1) xs)))
-  step l = sym h ∙ at_drop_more (good_events E) xs i 0 l
-
-  pub good_none : i < length xs → is_event E (get_or xs i 0) ≡ false → false ≡ good_events E xs
-  good_none l q = sym (step l ∙ ap (λ b. b && (not (named (get_or xs i 0) (drop (i + 1) xs)) && good_events E (drop (i + 1) xs))) q)
-
-  module _ (l : i < length xs) (q : is_event E (get_or xs i 0) ≡ true) (n : Bool) (e : n ≡ named (get_or xs i 0) (take (length xs - (i + 1)) (drop (i + 1) xs))) where
-    later : n ≡ named (get_or xs i 0) (drop (i + 1) xs)
-    later = e ∙ ap (named (get_or xs i 0)) (take_all _ (drop (i + 1) xs) (omega (arith, length-drop (i + 1) xs)))
-
-    good_is : good_events E xs ≡ (not n && good_events E (drop (i + 1) xs))
-    good_is = step l ∙ ap (λ b. b && (not (named (get_or xs i 0) (drop (i + 1) xs)) && good_events E (drop (i + 1) xs))) q
-        ∙ ap (λ b. not b && good_events E (drop (i + 1) xs)) (sym later)
-
-    pub good_twice : n ≡ true → false ≡ good_events E xs
-    good_twice t = sym (good_is ∙ ap (λ b. not b && good_events E (drop (i + 1) xs)) t)
-
-    pub good_next : n ≡ false → good_events E (drop (i + 1) xs) ≡ good_events E xs
-    good_next t = sym (good_is ∙ ap (λ b. not b && good_events E (drop (i + 1) xs)) t)
-
-  pub good_end : length xs ≤ i → true ≡ good_events E xs
-  good_end l = sym (at_drop_all (good_events E) xs i l) ∙ h
-
-pub top_next : (xs : List ℕ) (i most next : ℕ) → i < length xs → next ≡ max most (get_or xs i 0) → max most (top (drop i xs)) ≡ top xs → max next (top (drop (i + 1) xs)) ≡ top xs
-top_next xs i most next l h e = omega (arith, at_drop_more top xs i 0 l)
-
-pub top_end : (xs : List ℕ) (i most : ℕ) → length xs ≤ i → max most (top (drop i xs)) ≡ top xs → most ≡ top xs
-top_end xs i most l e = omega (arith, at_drop_all top xs i l)
+pub fold_highest : {A : Type 0} (names : A → List ℕ) (rs : List A) (a : ℕ) → fold (λ m r. max m (top (names r))) a rs ≡ max a (highest names rs)
+fold_highest names [] a = omega arith
+fold_highest names (r ∷ rs) a = omega (arith, fold_highest names rs (max a (top (names r))))
 
 -- a front of six that is cut at six
-pub front_six : (n m : ℕ) (xs : List ℕ) → length xs ≡ 6 → m ≡ min n 6 → take (m - 0) xs ≡ take n xs
+pub front_six : (n m : ℕ) (xs : List ℕ) → length xs ≡ 6 → m ≡ min n 6 → take m xs ≡ take n xs
 front_six n m xs l e = elim (cases_lt n 6) [
-  | inl h ↦ let q : m - 0 ≡ n = omega arith in ap (λ k. take k xs) q
-  | inr h ↦ take_all (m - 0) xs (omega arith) ∙ sym (take_all n xs (omega arith))
+  | inl h ↦ let q : m ≡ n = omega arith in ap (λ k. take k xs) q
+  | inr h ↦ take_all m xs (omega arith) ∙ sym (take_all n xs (omega arith))
 ]

@@ -1,3 +1,4 @@
-pub mod Events
+pub mod Naming
 pub mod Testing
 pub mod Placing
+pub mod Events

@@ -1,7 +1,7 @@
 -- The first piece of a list of bytes, and what is left after it.
-use Rattle.std.proofs.Common.{◌≡◌, ℕ, ◌+◌, ◌-◌, ◌<◌, ◌≤◌, Bool, true, false, cond, not, eqb, List, [], ◌∷◌, length, take, drop, sym, refl, ap, ◌∙◌, subst, add-one, one-add, arith, length-drop}
-use Rattle.std.proofs.lemmas.List.{length-take-le}
-use Rattle.std.specs.List.{prefix_len}
+use Rattle.std.proofs.Common.{◌≡◌, ℕ, ◌+◌, ◌-◌, ◌<◌, ◌≤◌, ◌==◌, Bool, true, false, cond, not, eqb, List, [], ◌∷◌, length, take, drop, sym, refl, ap, ◌∙◌, subst, add-one, one-add, arith}
+use Rattle.std.proofs.lemmas.List.{take_rest}
+use Rattle.std.specs.List.{prefix_len, position_or_len}
 use Rattle.text.specs.Pieces.{apart, onto, pieces}
 
 onto_first : (c : ℕ) (p : List ℕ) (ps all : List (List ℕ)) → all ≡ p ∷ ps → onto c all ≡ (c ∷ p) ∷ ps
@@ -32,20 +32,25 @@ pieces_last sep (x ∷ xs) h =
       | false ↦ λ l. ap (onto x) (pieces_last sep xs (omega arith))
     ]) h
 
--- the same where the place is known
-pub cut_last : (sep : ℕ) (xs : List ℕ) (n : ℕ) → n ≡ prefix_len (apart sep) xs → length xs ≤ n → pieces sep xs ≡ xs ∷ []
-cut_last sep xs n e h = pieces_last sep xs (omega arith)
+-- the same where the first separator has been found, or found missing
+pub cut_at : (sep : ℕ) (xs : List ℕ) (n : ℕ) → position_or_len (λ (c : ℕ). c == sep) xs ≡ n → n < length xs →
+    pieces sep xs ≡ take n xs ∷ pieces sep (take (length xs - (n + 1)) (drop (n + 1) xs))
+cut_at sep xs n e h =
+    subst (λ k. pieces sep xs ≡ take k xs ∷ pieces sep (drop (k + 1) xs)) e (pieces_at sep xs (omega (arith, e)))
+    ∙ ap (λ l. take n xs ∷ pieces sep l) (sym (take_rest xs (n + 1)))
 
-pub cut_at : (sep : ℕ) (xs rest : List ℕ) (n : ℕ) → n ≡ prefix_len (apart sep) xs → n < length xs → rest ≡ drop (n + 1) xs →
-    pieces sep xs ≡ take (n - 0) xs ∷ pieces sep rest
-cut_at sep xs rest n e h r =
-    let z : n - 0 ≡ n = omega arith in
-    subst (λ k. pieces sep xs ≡ take k xs ∷ pieces sep (drop (k + 1) xs)) (sym e) (pieces_at sep xs (omega arith))
-    ∙ (λ i. take (sym z i) xs ∷ pieces sep (sym r i))
+pub cut_last : (sep : ℕ) (xs : List ℕ) → position_or_len (λ (c : ℕ). c == sep) xs ≡ length xs → pieces sep xs ≡ xs ∷ []
+cut_last sep xs e = pieces_last sep xs (omega (arith, e))
 
--- and how many bytes are left
-pub fewer_at : (xs rest : List ℕ) (n : ℕ) → n < length xs → rest ≡ drop (n + 1) xs →
-    (length rest + 1) + (length (take (n - 0) xs) + 1) ≤ length xs + 1
-fewer_at xs rest n h r =
-    let z : n - 0 ≡ n = omega arith in
-    omega (arith, ap length r, length-drop (n + 1) xs, ap (λ k. length (take k xs)) z, length-take-le n xs (omega arith))
+-- one piece more than separators
+few_onto : (c : ℕ) (ps : List (List ℕ)) → length (onto c ps) ≤ length ps + 1
+few_onto c [] = omega arith
+few_onto c (p ∷ ps) = omega arith
+
+pub few_pieces : (sep : ℕ) (xs : List ℕ) → length (pieces sep xs) ≤ length xs + 1
+few_pieces sep [] = omega arith
+few_pieces sep (x ∷ xs) = go (eqb x sep) (few_pieces sep xs)
+  where
+    go : (b : Bool) → length (pieces sep xs) ≤ length xs + 1 → length (cond b ([] ∷ pieces sep xs) (onto x (pieces sep xs))) ≤ length (x ∷ xs) + 1
+    go true h = omega (arith, h)
+    go false h = omega (arith, h, few_onto x (pieces sep xs))

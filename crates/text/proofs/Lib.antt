@@ -1,4 +1,3 @@
 pub mod Dividing
 pub mod Division
-pub mod Numerals
 pub mod Standing

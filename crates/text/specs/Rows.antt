@@ -1,6 +1,6 @@
 -- The lines of a text that count, each with its place.
-use Rattle.std.specs.Prelude.{◌≡◌, ℕ, ◌+◌, Bool, true, false, cond, ◌&&◌, ◌||◌, List, [], ◌∷◌, length, take, drop, ◌==◌}
-use Rattle.std.specs.List.{AllByRecursion}
+use Rattle.std.specs.Prelude.{◌≡◌, ℕ, ◌+◌, Bool, false, cond, ◌||◌, List, [], ◌∷◌, length, take, drop, ◌==◌}
+use Rattle.std.specs.List.{AllByRecursion, list_all}
 use Rattle.text.specs.Pieces.{pieces, Division}
 use Rattle.text.specs.Fields.{space}
 
@@ -11,8 +11,7 @@ pub record Row : Type 0 where
 
 -- a line of spaces or of nothing
 abbrev pub blank : List ℕ → Bool
-blank [] = true
-blank (c ∷ cs) = space c && blank cs
+blank line = list_all space line
 
 -- a line whose very first byte is #
 abbrev pub comment : List ℕ → Bool

@@ -14,7 +14,8 @@ pub enum Kind {
     Journey,
 }
 
-// A line by its kind: its own bytes, borrowed from the text, and its place, offset and length in bytes.
+// A line by its kind: its own bytes, borrowed from the text, and its place, offset and length in bytes. A kind beside bytes
+// and place would say the same; as an enum, it is taken apart by a match on what the line is.
 #[derive(Clone, Copy)]
 pub enum Line<'t> {
     Heading(&'t [u8], (usize, usize)),
@@ -27,11 +28,8 @@ fn letter(field: &[u8]) -> Kind
     ensures { result ≡ letter_of field.now }
 {
     match field {
-        [only] => match *only as char {
-            'T' => Kind::Heading,
-            'J' => Kind::Journey,
-            _ => Kind::Span,
-        },
+        b"T" => Kind::Heading,
+        b"J" => Kind::Journey,
         _ => Kind::Span,
     }
 }
@@ -41,10 +39,9 @@ impl Kind {
     pub fn of(line: &[u8]) -> Kind
         ensures { result ≡ kind_of line.now }
     {
-        match Pieces::new(line, b';').next() {
-            Some(first) => letter(trim(first)),
-            None => Kind::Span,
-        }
+        Pieces::new(line, b';')
+            .next()
+            .map_or(Kind::Span, |first| letter(trim(first)))
     }
 }
 
@@ -65,9 +62,7 @@ impl<'t> Line<'t> {
         ensures { result.now ≡ (row_of self.entry).bytes }
     {
         match self {
-            Line::Heading(bytes, _) => bytes,
-            Line::Span(bytes, _) => bytes,
-            Line::Journey(bytes, _) => bytes,
+            Line::Heading(bytes, _) | Line::Span(bytes, _) | Line::Journey(bytes, _) => bytes,
         }
     }
 
@@ -75,9 +70,7 @@ impl<'t> Line<'t> {
         ensures { result ≡ (row_of self.entry).place }
     {
         match self {
-            Line::Heading(_, place) => place,
-            Line::Span(_, place) => place,
-            Line::Journey(_, place) => place,
+            Line::Heading(_, place) | Line::Span(_, place) | Line::Journey(_, place) => place,
         }
     }
 }

@@ -3,8 +3,8 @@
 
 ghost use Rattle.std.specs.Prelude.{◌≡◌, ◌<◌, true, false, replicate, if◌then◌else◌, Ok, Err, nat_lt, slice_index_or, slice_set};
 ghost use Rattle.refusals.specs.declared.Refusal.TheVariants.{Range};
-ghost use Rattle.relations.specs.Joins.{waived_from};
-ghost use Rattle.relations.proofs.Joining.{waived_deflation, waived_soundness, waived_exactness, waived_monotony, waived_silence, waived_confinement};
+ghost use Rattle.relations.specs.Joins.{waived};
+ghost use Rattle.relations.proofs.Joining.{joins_are_lawful};
 
 use bank::{Bank, all_below, in_limits};
 use refusals::Refusal;
@@ -19,7 +19,19 @@ impl Marks {
     pub fn has(&self, k: usize) -> bool
         ensures { result ≡ slice_index_or self.now.marked k false }
     {
-        if k < 512 { self.marked[k] } else { false }
+        self.marked.get(k).copied().unwrap_or(false)
+    }
+
+    // Marks number `k`, or takes its mark away. Range where there is no such number.
+    fn set(&mut self, k: usize, marked: bool) -> Result<(), Refusal>
+        ensures answer { result ≡ (if nat_lt k 512 then Ok tt else Err Range) }
+        ensures marks { self.new.marked ≡ (if nat_lt k 512 then slice_set self.old.marked k marked else self.old.marked) }
+    {
+        if k >= 512 {
+            return Err(Refusal::Range);
+        }
+        self.marked[k] = marked;
+        Ok(())
     }
 }
 
@@ -50,11 +62,7 @@ impl<B> Waiver<B> {
         ensures under { self.new.bank ≡ self.old.bank }
         ensures marks { self.new.marks.marked ≡ (if nat_lt k 512 then slice_set self.old.marks.marked k true else self.old.marks.marked) }
     {
-        if k >= 512 {
-            return Err(Refusal::Range);
-        }
-        self.marks.marked[k] = true;
-        Ok(())
+        self.marks.set(k, true)
     }
 
     // Waives relation `k` no more.
@@ -63,32 +71,12 @@ impl<B> Waiver<B> {
         ensures under { self.new.bank ≡ self.old.bank }
         ensures marks { self.new.marks.marked ≡ (if nat_lt k 512 then slice_set self.old.marks.marked k false else self.old.marks.marked) }
     {
-        if k >= 512 {
-            return Err(Refusal::Range);
-        }
-        self.marks.marked[k] = false;
-        Ok(())
+        self.marks.set(k, false)
     }
 }
 
 impl<B: Bank> Bank for Waiver<B> {
-    ghost period = { λ s. B.period s.bank };
-
-    ghost reach = { λ s. B.reach s.bank };
-
-    ghost relations = { λ s. waived_from s.marks.marked 0 (B.relations s.bank) };
-
-    ghost deflation = { λ s. waived_deflation s.marks.marked (B.relations s.bank) (B.deflation s.bank) };
-
-    ghost soundness = { λ s. waived_soundness s.marks.marked (B.relations s.bank) (B.soundness s.bank) };
-
-    ghost exactness = { λ s. waived_exactness s.marks.marked (B.relations s.bank) (B.exactness s.bank) };
-
-    ghost monotony = { λ s. waived_monotony s.marks.marked (B.relations s.bank) (B.monotony s.bank) };
-
-    ghost silence = { λ s. waived_silence s.marks.marked (B.relations s.bank) (B.silence s.bank) };
-
-    ghost confinement = { λ s. waived_confinement s.marks.marked (B.relations s.bank) (B.confinement s.bank) };
+    ghost meaning = { λ s. waived s.marks.marked (B.meaning s.bank) };
 
     fn period(&self) -> u8 {
         self.bank.period()
@@ -121,4 +109,6 @@ impl<B: Bank> Bank for Waiver<B> {
         }
         self.bank.narrow(k, family)
     }
+
+    ghost laws = { λ s. joins_are_lawful.of_waived s.marks.marked (B.meaning s.bank) (B.laws s.bank) };
 }

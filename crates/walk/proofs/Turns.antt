@@ -1,13 +1,13 @@
 -- What a turn of the walk keeps.
-use Rattle.std.proofs.Common.{◌≡◌, ℕ, ◌+◌, ◌<◌, ◌≤◌, Bool, true, false, List, [], length, take, set, sym, refl, ap, ◌∙◌, subst, inl, inr, add-one, arith}
-use Rattle.std.proofs.lemmas.Bool.{cases_lt, cases_Bool, false≢true}
+use Rattle.std.proofs.Common.{◌≡◌, ℕ, ◌+◌, ◌<◌, ◌≤◌, Bool, true, false, ltb, List, [], length, take, set, sym, refl, ap, ◌∙◌, subst, inl, inr, add-one, arith}
+use Rattle.std.proofs.lemmas.Bool.{cases_lt, cases_Bool, lt-ltb, le-ltb, false≢true}
 use Rattle.std.proofs.lemmas.List.{length-take, get_or-take, get_or-set_same, get_or-set_other}
 use Rattle.minutes.specs.Minutes.{In, at, NoneEmpty}
-use Rattle.rest.specs.Rest.{Rest, Suits, has_empty}
+use Rattle.rest.specs.Rest.{Rest, Suits}
 use Rattle.rest.proofs.Families.{suits_within}
 use Rattle.rest.proofs.Settling.{one_rest}
 use Rattle.search.specs.declared.Answer.TheVariants.{Found, Nothing, Spent}
-use Rattle.search.specs.Search.{Problem, events, held, WellPosed, FloorOf, Way, rest_of, Alive, Finds}
+use Rattle.search.specs.Search.{Problem, events, held, WellPosed, FloorOf, Way, Begins, rest_of, Alive, Finds}
 use Rattle.search.proofs.Edges.{Raised, Lowered}
 use Rattle.search.proofs.Held.{held_length}
 use Rattle.search.proofs.Living.{some_way, is_rest, held_suits}
@@ -16,8 +16,8 @@ use Rattle.search.proofs.Walk.{y_low}
 use Rattle.search.proofs.Worth.{ahead}
 use Rattle.steps.specs.Steps.{Lowest}
 use Rattle.walk.specs.Walking.{Refreshed, Extends, Descended}
-use Rattle.alive.proofs.Emptiness.{no_empty, some_empty}
-use Rattle.walk.proofs.Children.{rest_on}
+use Rattle.settle.specs.Settles.{Settles}
+use Rattle.walk.proofs.Children.{rest_on, rest_back}
 use Rattle.walk.proofs.State.{State, st_start, less_raised, st_dead, st_up, st_down, less_lowered, st_found, st_dead_root, st_none, st_spent}
 
 -- the search has come so far, in whichever way it narrows: the first d minutes of y are alive, and sets has what each of these
@@ -33,37 +33,38 @@ pub record Turn (q : Problem) (floor y onward root r sets : List ℕ) (d count b
   pub fresh : stale ≡ false → (way : Way q) → r ≡ rest_of q way (take d y)
   pub state : (way : Way q) → State q way floor y onward d count
 
-module _ (q : Problem) (posed : WellPosed q) (floor : List ℕ) (budget : ℕ) where
+module _ {q : Problem} (posed : WellPosed q) where
   -- a rest is that by every way
   by_way : (p r : List ℕ) → Rest q.meaning (held p q.allowed) r → (way : Way q) → r ≡ rest_of q way p
   by_way p r rest way = one_rest q.meaning (held p q.allowed) r _ rest (is_rest q posed way p)
 
-  turn : (y onward root r sets : List ℕ) (d count : ℕ) (stale : Bool) → count ≤ budget → d < events q → Rest q.meaning q.allowed root →
+  turn : {floor : List ℕ} {budget : ℕ} (y onward root r sets : List ℕ) (d count : ℕ) (stale : Bool) → count ≤ budget → d < events q → Rest q.meaning q.allowed root →
       ((way : Way q) → Alive q way (take d y)) → ((way : Way q) (j : ℕ) → j ≤ d → at sets j ≡ at (rest_of q way (take j y)) j) →
       (stale ≡ false → (way : Way q) → r ≡ rest_of q way (take d y)) → ((way : Way q) → State q way floor y onward d count) → Turn q floor y onward root r sets d count budget stale
-  turn y onward root r sets d count stale h deep b alive left fresh s =
+  turn {floor} y onward root r sets d count stale h deep b alive left fresh s =
       let t = s (some_way q posed) in
       record { unspent = h; deep = deep; low = y_low q posed (some_way q posed) floor y d count t.names t.walk; len = t.walk.edge.len; base = b; alive = alive; left = left; fresh = fresh; state = s }
 
   -- before the first turn, when the allowed family was copied to f and settled to root
-  module _ (from : FloorOf q floor) (len : length floor ≡ events q) (f root : List ℕ) (copied : f ≡ q.allowed) (settled : Rest q.meaning f root) where
-    base : Rest q.meaning q.allowed root
-    base = subst (λ z. Rest q.meaning z root) copied settled
-
-    pub turn_start : has_empty root ≡ false → (r : List ℕ) → r ≡ root → (onward : List ℕ) → onward ≡ floor → (sets : List ℕ) → 0 < length sets →
+  module _ {floor : List ℕ} (budget : ℕ) (from : FloorOf q floor) (len : length floor ≡ events q) {f root : List ℕ} {alive : Bool} (copied : f ≡ q.allowed) (settles : Settles q.meaning f root alive) where
+    pub turn_start : alive ≡ true → {r : List ℕ} → r ≡ root → {onward : List ℕ} → onward ≡ floor → (sets : List ℕ) → 0 < length sets →
         Turn q floor floor onward root r (set sets 0 (at r 0)) 0 0 budget false
-    turn_start e r r_is onward on_is sets some =
+    turn_start e {r} r_is on_is sets some =
+        let base : Rest q.meaning q.allowed root = subst (λ z. Rest q.meaning z root) copied (settles.rest e) in
         let is : (way : Way q) → r ≡ rest_of q way [] = λ way. r_is ∙ by_way [] root base way in
         subst (λ z. Turn q floor floor z root r (set sets 0 (at r 0)) 0 0 budget false) (sym on_is)
         (turn floor floor root r (set sets 0 (at r 0)) 0 0 false (omega arith) (omega (arith, posed.some)) base
-        (λ way. subst (λ z. NoneEmpty z) (by_way [] root base way) (no_empty root e))
+        (λ way. subst (λ z. NoneEmpty z) (by_way [] root base way) (settles.full e))
         (λ way j h. let z : 0 ≡ j = omega arith in subst (λ k. at (set sets 0 (at r 0)) k ≡ at (rest_of q way (take k floor)) k) z (get_or-set_same sets 0 (at r 0) 0 some ∙ ap (λ k. at k 0) (is way)))
         (λ _. is) (λ way. st_start q posed way floor from len))
 
-    pub end_at_once : has_empty root ≡ true → (way : Way q) → Finds q way floor budget (Nothing 0) []
-    end_at_once e way = st_dead_root q posed way floor floor floor 0 0 (st_start q posed way floor from len) root base budget (omega arith) refl (some_empty root e)
+    pub end_at_once : alive ≡ false → (way : Way q) → Finds q way floor budget (Nothing 0) []
+    end_at_once e way =
+        let rest = is_rest q posed way [] in
+        st_dead_root q posed way floor floor floor 0 0 (st_start q posed way floor from len) (rest_of q way []) rest budget (omega arith) refl
+        (settles.dead e (rest_of q way []) (subst (λ z. Rest q.meaning z (rest_of q way [])) (sym copied) rest))
 
-  module _ (y onward root r sets : List ℕ) (d count : ℕ) (stale : Bool) (w : Turn q floor y onward root r sets d count budget stale) (P : ℕ) (p_is : P ≡ q.meaning.period) where
+  module _ {floor y onward root r sets : List ℕ} {d count budget : ℕ} {stale : Bool} (w : Turn q floor y onward root r sets d count budget stale) {P : ℕ} (p_is : P ≡ q.meaning.period) where
     -- the rest of the first d minutes
     here : (way : Way q) → Rest q.meaning (held (take d y) q.allowed) (rest_of q way (take d y))
     here way = is_rest q posed way (take d y)
@@ -83,6 +84,22 @@ module _ (q : Problem) (posed : WellPosed q) (floor : List ℕ) (budget : ℕ) w
     pub root_length : length root ≡ events q
     root_length = w.base.inside.len
 
+    -- the rest of the d minutes, from root
+    begins : Begins [] (take d y)
+    begins = record { shorter = omega arith; same = λ j l. absurd (omega arith) }
+
+    within : length (take d y) ≤ events q
+    within = omega (arith, long d (omega (arith, w.deep)), w.deep)
+
+    pub rest_alive : (s : List ℕ) × Rest q.meaning (held (take d y) root) s × NoneEmpty s
+    rest_alive = let o = some_way q posed in (rest_of q o (take d y), rest_back q.meaning q.allowed [] (take d y) root begins within w.base (rest_of q o (take d y)) (here o), w.alive o)
+
+    pub front_short : length (take d y) ≤ length root
+    front_short = omega (arith, within, root_length)
+
+    pub front_low : (i : ℕ) → i < length (take d y) → at (take d y) i < 64
+    front_low i h = let l : i < d = omega (arith, long d (omega (arith, w.deep))) in omega (arith, get_or-take d y i 0 l, w.low i l, posed.most)
+
     -- what stays when the search goes back to place i, with the same minutes before it
     module _ (i : ℕ) (y' : List ℕ) (inside : i < d) (same : (j : ℕ) → j ≤ i → take j y ≡ take j y') where
       back_alive : (way : Way q) → Alive q way (take i y')
@@ -99,7 +116,7 @@ module _ (q : Problem) (posed : WellPosed q) (floor : List ℕ) (budget : ℕ) w
       pub end_none : d ≡ 0 → (way : Way q) → Finds q way floor budget (Nothing count) []
       end_none e way = st_none q posed way floor y onward d count (w.state way) _ (here way) budget w.unspent e (barren way)
 
-      module _ (i : ℕ) (y' : List ℕ) (raised : Raised P (length y) y d i y') where
+      module _ {i : ℕ} {y' : List ℕ} (raised : Raised P (length y) y d i y') where
         up : Raised q.meaning.period (events q) y d i y'
         up = subst (λ z. Raised z (events q) y d i y') p_is (subst (λ z. Raised P z y d i y') w.len raised)
 
@@ -113,10 +130,10 @@ module _ (q : Problem) (posed : WellPosed q) (floor : List ℕ) (budget : ℕ) w
             (λ way. st_up q posed way floor y onward d count (w.state way) _ (here way) i y' up (w.alive way) w.deep (barren way))
 
     -- r was refreshed to s, the rest of the first d minutes
-    module _ (s : List ℕ) (refreshed : Refreshed q.meaning (held (take d y) root) r s stale) where
+    module _ {s : List ℕ} (refreshed : Refreshed q.meaning (held (take d y) root) r s stale) where
       pub rest_is : (way : Way q) → s ≡ rest_of q way (take d y)
       rest_is way = elim (cases_Bool stale) [
-        | inl e ↦ by_way (take d y) s (rest_on q.meaning q.allowed [] (take d y) root (record { shorter = omega arith; same = λ j l. absurd (omega arith) }) (omega (arith, long d (omega (arith, w.deep)), w.deep)) w.base s (refreshed.renewed e)) way
+        | inl e ↦ by_way (take d y) s (rest_on q.meaning q.allowed [] (take d y) root begins within w.base s (refreshed.renewed e)) way
         | inr e ↦ refreshed.kept e ∙ w.fresh e way
       ]
 
@@ -133,7 +150,7 @@ module _ (q : Problem) (posed : WellPosed q) (floor : List ℕ) (budget : ℕ) w
       rest_full = subst (λ z. NoneEmpty z) (sym (rest_is (some_way q posed))) (w.alive (some_way q posed))
 
       -- minute t is the lowest left at place d
-      module _ (t : ℕ) (lowest : Lowest (at sets d) (at y d) t) (y' : List ℕ) (lowered : Lowered (length y) y d t y') where
+      module _ {t : ℕ} (lowest : Lowest (at sets d) (at y d) t) {y' : List ℕ} (lowered : Lowered (length y) y d t y') where
         down : Lowered (events q) y d t y'
         down = subst (λ z. Lowered z y d t y') w.len lowered
 
@@ -156,6 +173,15 @@ module _ (q : Problem) (posed : WellPosed q) (floor : List ℕ) (budget : ℕ) w
         long' : length (take (d + 1) y') ≡ d + 1
         long' = omega (arith, length-take (d + 1) y', down.len, w.deep)
 
+        pub child_some : 0 < length (take (d + 1) y')
+        child_some = omega (arith, long')
+
+        pub child_short : length (take (d + 1) y') ≤ length s
+        child_short = omega (arith, long', rest_length, w.deep)
+
+        pub child_low : (i : ℕ) → i < length (take (d + 1) y') → at (take (d + 1) y') i < 64
+        child_low i h = omega (arith, get_or-take (d + 1) y' i 0 (omega (arith, long')), down_low i (omega (arith, long')), posed.most)
+
         extends : Extends q.meaning q.allowed (take d y) (take (d + 1) y') s
         extends = record {
           begins = record {
@@ -166,7 +192,7 @@ module _ (q : Problem) (posed : WellPosed q) (floor : List ℕ) (budget : ℕ) w
           rest = s_rest;
         }
 
-        module _ (r' : List ℕ) (b : Bool) (descended : Descended q.meaning (take (d + 1) y') s r' b) where
+        module _ {r' : List ℕ} {b : Bool} (descended : Descended q.meaning (take (d + 1) y') s r' b) where
           child_is : b ≡ true → (way : Way q) → r' ≡ rest_of q way (take (d + 1) y')
           child_is e way = by_way (take (d + 1) y') r' (descended.down e q.allowed (take d y) extends).0 way
 
@@ -192,7 +218,7 @@ module _ (q : Problem) (posed : WellPosed q) (floor : List ℕ) (budget : ℕ) w
           pub end_spent : b ≡ false → count ≡ budget → (way : Way q) → Finds q way floor budget (Spent count) onward
           end_spent e full way = st_spent q posed way floor y' onward (d + 1) count (next way) _ (is_rest q posed way (take (d + 1) y')) budget (omega arith) (child_dead e way) full
 
-          module _ (e : b ≡ false) (more : count ≡ budget → ⊥) (i : ℕ) (z : List ℕ) (raised : Raised P (length y') y' (d + 1) i z) where
+          module _ (e : b ≡ false) (more : count ≡ budget → ⊥) {i : ℕ} {z : List ℕ} (raised : Raised P (length y') y' (d + 1) i z) where
             over : Raised q.meaning.period (events q) y' (d + 1) i z
             over = subst (λ k. Raised k (events q) y' (d + 1) i z) p_is (subst (λ k. Raised P k y' (d + 1) i z) down.len raised)
 
@@ -205,25 +231,25 @@ module _ (q : Problem) (posed : WellPosed q) (floor : List ℕ) (budget : ℕ) w
             same_to : (n : ℕ) → n ≤ i → n ≤ d → take n y ≡ take n z
             same_to n h l = take_same n y z (w.len ∙ sym over.len) (λ k u. sym (down.same k (omega arith)) ∙ sym (over.same k (omega arith)))
 
-            module _ (onward' : List ℕ) (on_is : onward' ≡ z) where
-              pub turn_dead_back : i < d → Turn q floor z onward' root r' sets i (count + 1) budget true
+            module _ {onward' : List ℕ} (on_is : onward' ≡ z) where
+              turn_dead_back : i < d → Turn q floor z onward' root r' sets i (count + 1) budget true
               turn_dead_back h =
                   let same : (j : ℕ) → j ≤ i → take j y ≡ take j z = λ j l. same_to j l (omega arith) in
                   subst (λ k. Turn q floor z k root r' sets i (count + 1) budget true) (sym on_is)
                   (turn z z root r' sets i (count + 1) true (omega (arith, w.unspent)) (omega (arith, w.deep)) w.base (back_alive i z h same) (back_left i z h same) (λ u. absurd (false≢true (sym u))) counted)
 
-              at_d : d ≤ i → i ≡ d
-              at_d h = omega (arith, over.inside)
+              turn_dead_here : i ≡ d → Turn q floor z onward' root r' sets i (count + 1) budget false
+              turn_dead_here h =
+                  let same : (j : ℕ) → j ≤ i → take j y ≡ take j z = λ j l. same_to j l (omega arith) in
+                  subst (λ k. Turn q floor z k root r' sets i (count + 1) budget false) (sym on_is)
+                  (turn z z root r' sets i (count + 1) false (omega (arith, w.unspent)) (omega (arith, w.deep)) w.base
+                  (λ way. subst (λ k. Alive q way k) (ap (λ k. take k y) (sym h) ∙ same i (omega arith)) (w.alive way))
+                  (λ way j l. w.left way j (omega arith) ∙ ap (λ k. at (rest_of q way k) j) (same j l))
+                  (λ _ way. descended.kept e ∙ rest_is way ∙ ap (rest_of q way) (ap (λ k. take k y) (sym h) ∙ same i (omega arith)))
+                  counted)
 
-              pub turn_dead : d ≤ i → Turn q floor z onward' root r' sets d (count + 1) budget false
-              turn_dead h =
-                  let same : (j : ℕ) → j ≤ d → take j y ≡ take j z = λ j l. same_to j (omega (arith, at_d h)) l in
-                  subst (λ k. Turn q floor z k root r' sets d (count + 1) budget false) (sym on_is)
-                  (turn z z root r' sets d (count + 1) false (omega (arith, w.unspent)) w.deep w.base
-                  (λ way. subst (λ k. Alive q way k) (same d (omega arith)) (w.alive way))
-                  (λ way j l. w.left way j l ∙ ap (λ k. at (rest_of q way k) j) (same j l))
-                  (λ _ way. descended.kept e ∙ rest_is way ∙ ap (rest_of q way) (same d (omega arith)))
-                  (λ way. subst (λ k. State q way floor z z k (count + 1)) (at_d h) (counted way)))
-
-              pub dead_less_here : d ≤ i → ahead q.meaning.period (events q) z d < ahead q.meaning.period (events q) y d
-              dead_less_here h = subst (λ k. ahead q.meaning.period (events q) z k < ahead q.meaning.period (events q) y d) (at_d h) dead_less
+              pub turn_dead : Turn q floor z onward' root r' sets i (count + 1) budget (ltb i d)
+              turn_dead = elim (cases_lt i d) [
+                | inl h ↦ subst (λ k. Turn q floor z onward' root r' sets i (count + 1) budget k) (sym (lt-ltb i d h)) (turn_dead_back h)
+                | inr h ↦ subst (λ k. Turn q floor z onward' root r' sets i (count + 1) budget k) (sym (le-ltb i d h)) (turn_dead_here (omega (arith, over.inside)))
+              ]

@@ -1,73 +1,62 @@
 //! The search for the earliest timetable (internal: what calls it has tested plan, floor and bank).
 #![tactic(auto)]
 
-ghost use Rattle.std.specs.Prelude.{◌≡◌, ℕ, ◌+◌, ◌<◌, ◌≤◌, length, take};
-ghost use Rattle.minutes.specs.Minutes.{at, NoneEmpty};
-ghost use Rattle.bank.specs.Calls.{meant};
-ghost use Rattle.rest.specs.Rest.{Suits};
+ghost use Rattle.std.specs.Prelude.{◌≡◌, ℕ, ◌<◌, ◌≤◌, List, length};
+ghost use Rattle.minutes.specs.Minutes.{NoneEmpty};
+ghost use Rattle.rest.specs.Rest.{Rest, Suits};
 ghost use Rattle.search.specs.Search.{held, WellPosed, FloorOf, Way, Finds};
 ghost use Rattle.search.specs.Theorems.{problem};
-ghost use Rattle.alive.specs.Alive.{Settles};
+ghost use Rattle.settle.specs.Settles.{Settles};
 ghost use Rattle.walk.specs.Walking.{Refreshed, Descended, to_write};
 
-use alive::settle_alive;
 use bank::Bank;
 use search::Answer;
-use settle::{has_empty, settle};
-use steps::{hold, lower, lowest, raise};
+use settle::FitBank;
+use steps::{Prefix, hold, lower, lowest, raise};
 
-// Goes back where `rest` is stale: it becomes the rest of the first `d` minutes, narrowed from the rest of the allowed family.
-fn refresh<B: Bank>(bank: &B, stale: bool, root: &[u64], minutes: &[u8], d: usize, rest: &mut [u64])
-    requires size { length (B.relations bank.now) ≤ 512 }
-    requires suits { Suits (meant (B.period bank.now) (B.reach bank.now) (B.relations bank.now)) root.now }
+// That a family suits the bank and is as long as another stands at each of these: they are lent to be changed, so no type of
+// ours can hold it.
+
+// Narrows `into`, from the rest of a shorter prefix, to the rest of this one, and says whether no set of that is empty; where
+// one is, `into` is of no use.
+fn narrow<B: Bank>(bank: &FitBank<B>, from: &[u64], prefix: Prefix, into: &mut [u64]) -> bool
+    requires suits { Suits (B.meaning bank.now.bank.now) from.now }
+    requires into { length into.old ≡ length from.now }
+    requires short { length prefix.list.now ≤ length from.now }
+    ensures { Settles (B.meaning bank.now.bank.now) (held prefix.entry.list.now from.now) into.new result }
+{
+    hold(from, prefix, into);
+    bank.settle(into)
+}
+
+// Goes back where `rest` is stale: it becomes the rest of the prefix, which is alive, from the rest of the allowed family.
+fn refresh<B: Bank>(bank: &FitBank<B>, stale: bool, root: &[u64], prefix: Prefix, rest: &mut [u64])
+    requires suits { Suits (B.meaning bank.now.bank.now) root.now }
+    requires alive { (r : List ℕ) × Rest (B.meaning bank.now.bank.now) (held prefix.list.now root.now) r × NoneEmpty r }
     requires rest { length rest.old ≡ length root.now }
-    requires minutes { length minutes.now ≡ length root.now }
-    requires below { (i : ℕ) → i < d → at minutes.now i < 64 }
-    ensures { Refreshed (meant (B.period bank.now) (B.reach bank.now) (B.relations bank.now)) (held (take d minutes.now) root.now) rest.old rest.new stale }
+    requires short { length prefix.list.now ≤ length root.now }
+    ensures { Refreshed (B.meaning bank.now.bank.now) (held prefix.entry.list.now root.now) rest.old rest.new stale }
 {
     if stale {
-        hold(root, minutes, d, rest);
-        settle(bank, rest);
+        narrow(bank, root, prefix, rest);
     }
 }
 
-// Narrows `child`, from the rest of the first `d` minutes, to the rest of one minute more, and says whether no set of that is
-// empty; where one is, `child` is of no use.
-fn narrow_child<B: Bank>(
-    bank: &B,
-    rest: &[u64],
-    minutes: &[u8],
-    d: usize,
-    child: &mut [u64],
-) -> bool
-    requires size { length (B.relations bank.now) ≤ 512 }
-    requires suits { Suits (meant (B.period bank.now) (B.reach bank.now) (B.relations bank.now)) rest.now }
-    requires child { length child.old ≡ length rest.now }
-    requires minutes { length minutes.now ≡ length rest.now }
-    requires deep { d < length rest.now }
-    requires below { (i : ℕ) → i ≤ d → at minutes.now i < 64 }
-    ensures { Settles (meant (B.period bank.now) (B.reach bank.now) (B.relations bank.now)) (held (take (d + 1) minutes.now) rest.now) child.new result }
-{
-    hold(rest, minutes, d + 1, child);
-    settle_alive(bank, child)
-}
-
-// Goes down: from the rest of the first `d` minutes to that of one more, by way of `child`, and says whether no set of it is
-// empty; where one is, `rest` stays. An event that has only that minute left needs no narrowing.
-fn descend<B: Bank>(bank: &B, minutes: &[u8], d: usize, rest: &mut [u64], child: &mut [u64]) -> bool
-    requires size { length (B.relations bank.now) ≤ 512 }
-    requires suits { Suits (meant (B.period bank.now) (B.reach bank.now) (B.relations bank.now)) rest.old }
+// Goes down to this prefix, from the rest of the one without its last minute, by way of `child`, and says whether no set of
+// the new rest is empty; where one is, `rest` stays. An event that has only that minute left needs no narrowing.
+fn descend<B: Bank>(bank: &FitBank<B>, prefix: Prefix, rest: &mut [u64], child: &mut [u64]) -> bool
+    requires suits { Suits (B.meaning bank.now.bank.now) rest.old }
     requires full { NoneEmpty rest.old }
-    requires deep { d < length rest.old }
+    requires some { 0 < length prefix.list.now }
+    requires short { length prefix.list.now ≤ length rest.old }
     requires child { length child.old ≡ length rest.old }
-    requires minutes { length minutes.now ≡ length rest.old }
-    requires below { (i : ℕ) → i ≤ d → at minutes.now i < 64 }
-    ensures { Descended (meant (B.period bank.now) (B.reach bank.now) (B.relations bank.now)) (take (d + 1) minutes.now) rest.old rest.new result }
+    ensures { Descended (B.meaning bank.now.bank.now) prefix.entry.list.now rest.old rest.new result }
 {
-    if rest[d] == 1u64 << minutes[d] {
+    let last = prefix.list.len() - 1;
+    if rest[last] == 1u64 << prefix.list[last] {
         return true;
     }
-    if narrow_child(bank, rest, minutes, d, child) {
+    if narrow(bank, rest, prefix, child) {
         rest.copy_from_slice(child);
         return true;
     }
@@ -77,9 +66,10 @@ fn descend<B: Bank>(bank: &B, minutes: &[u8], d: usize, rest: &mut [u64], child:
 // Walks from the floor in `edge` on, event by event and at each the minutes in rising order. Before `edge` there are `count`
 // dead ends and no timetable that is sought, and `onward` is the first timetable after the last of these. The first `d`
 // minutes of `edge` are alive; `sets` has what each of these left to the event behind it, so that going back is for an event
-// that has another minute. Unless it is stale, `rest` is the rest of the `d` minutes. The lists have a place for each event.
+// that has another minute. Unless it is stale, `rest` is the rest of the `d` minutes; an Option would lose the list that it is
+// made in. The lists have a place for each event: a struct of them would be taken apart here again, since each is lent alone.
 pub fn walk<B: Bank>(
-    bank: &B,
+    bank: &FitBank<B>,
     allowed: &[u64],
     budget: u32,
     edge: &mut [u8],
@@ -89,20 +79,19 @@ pub fn walk<B: Bank>(
     child: &mut [u64],
     sets: &mut [u64],
 ) -> Answer
-    requires posed { WellPosed (problem (meant (B.period bank.now) (B.reach bank.now) (B.relations bank.now)) allowed.now) }
-    requires floor { FloorOf (problem (meant (B.period bank.now) (B.reach bank.now) (B.relations bank.now)) allowed.now) edge.old }
+    requires posed { WellPosed (problem (B.meaning bank.now.bank.now) allowed.now) }
+    requires floor { FloorOf (problem (B.meaning bank.now.bank.now) allowed.now) edge.old }
     requires edge { length edge.old ≡ length allowed.now }
     requires onward { onward.old ≡ edge.old }
     requires root { length root.old ≡ length allowed.now }
     requires rest { length rest.old ≡ length allowed.now }
     requires child { length child.old ≡ length allowed.now }
     requires sets { length sets.old ≡ length allowed.now }
-    ensures { (way : Way (problem (meant (B.period bank.now) (B.reach bank.now) (B.relations bank.now)) allowed.now)) → Finds (problem (meant (B.period bank.now) (B.reach bank.now) (B.relations bank.now)) allowed.now) way edge.old budget result (to_write result edge.new onward.new) }
+    ensures { (way : Way (problem (B.meaning bank.now.bank.now) allowed.now)) → Finds (problem (B.meaning bank.now.bank.now) allowed.now) way edge.old budget result (to_write result edge.new onward.new) }
 {
-    let period = bank.period();
+    let period = bank.bank.period();
     root.copy_from_slice(allowed);
-    settle(bank, root);
-    if has_empty(root) {
+    if !bank.settle(root) {
         return Answer::Nothing(0);
     }
     rest.copy_from_slice(root);
@@ -110,38 +99,34 @@ pub fn walk<B: Bank>(
     let mut d = 0;
     let mut count = 0;
     let mut stale = false;
+    // No range ends it: the depth goes down and up again.
     'turns: loop {
-        match lowest(sets[d], edge[d], period) {
-            Some(minute) => {
-                refresh(bank, stale, root, edge, d, rest);
-                stale = false;
-                lower(edge, d, minute);
-                if descend(bank, edge, d, rest, child) {
-                    d += 1;
-                    if d == allowed.len() {
-                        return Answer::Found(count);
-                    }
-                    sets[d] = rest[d];
-                } else {
-                    if count == budget {
-                        return Answer::Spent(count);
-                    }
-                    count += 1;
-                    let place = raise(edge, d + 1, period);
-                    onward.copy_from_slice(edge);
-                    if place < d {
-                        d = place;
-                        stale = true;
-                    }
-                }
+        let Some(minute) = lowest(sets[d], edge[d], period) else {
+            if d == 0 {
+                return Answer::Nothing(count);
             }
-            None => {
-                if d == 0 {
-                    return Answer::Nothing(count);
-                }
-                d = raise(edge, d, period);
-                stale = true;
+            d = raise(edge, d, period);
+            stale = true;
+            continue;
+        };
+        refresh(bank, stale, root, Prefix { list: &edge[..d] }, rest);
+        lower(edge, d, minute);
+        if descend(bank, Prefix { list: &edge[..=d] }, rest, child) {
+            d += 1;
+            if d == allowed.len() {
+                return Answer::Found(count);
             }
+            sets[d] = rest[d];
+            stale = false;
+        } else {
+            if count == budget {
+                return Answer::Spent(count);
+            }
+            count += 1;
+            let place = raise(edge, d + 1, period);
+            onward.copy_from_slice(edge);
+            stale = place < d;
+            d = place;
         }
     }
 }

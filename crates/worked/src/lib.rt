@@ -4,11 +4,9 @@
 ghost use Rattle.worked.specs.Worked.{Worked};
 
 // Worked examples, from the definitions.
-pub fn examples_stand() -> u8
+pub fn examples_stand()
     ensures { Worked }
-{
-    0
-}
+{}
 
 #[cfg(test)]
 mod tests {
@@ -19,7 +17,7 @@ mod tests {
     use refusals::Refusal;
     use std::process::Abort;
     use std::test::Fail;
-    use table_banks::span_bank::SpanBank;
+    use table_banks::SpanBank;
 
     // All 64 minutes but minute 5.
     const BUT_5: u64 = u64::MAX - 32;

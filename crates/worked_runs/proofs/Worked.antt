@@ -1,5 +1,5 @@
 -- The list of the example, and the law over it.
-use Rattle.std.proofs.Common.{◌≡◌, ℕ, zero, suc, ◌<◌, List, [], ◌∷◌, length, refl, subst, arith}
+use Rattle.std.proofs.Common.{◌≡◌, ℕ, zero, suc, ◌<◌, List, [], ◌∷◌, length, refl, subst, arith, Ok}
 use Rattle.relations.specs.Meaning.{Meaning, Laws}
 use Rattle.calls.specs.Calls.{find}
 use Rattle.calls.specs.Standing.{call_at}
@@ -9,7 +9,7 @@ use Rattle.search.specs.Theorems.{problem, SameMeaning}
 use Rattle.search.proofs.Living.{some_way}
 use Rattle.search.proofs.Proved.{earliest_or_none, the_number}
 use Rattle.find.specs.Outcome.{Outcome}
-use Rattle.runs.specs.declared.requests.Reply.TheVariants.{Answered}
+use Rattle.runs.specs.declared.requests.Done.TheVariants.{Answered}
 use Rattle.runs.specs.Law.{places, stood, reply_at, RightReply, FindAt, LawOverRuns}
 use Rattle.runs.proofs.Calling.{right_accepted}
 use Rattle.runs.proofs.Holding.{law_holds}
@@ -43,8 +43,8 @@ second_outcome = record {
 }
 
 each : (i : ℕ) → i < length the_calls → RightReply 2 1 (stood 2 1 the_calls i) (call_at the_calls i) (places 1 before i) (places 1 afterwards i) (reply_at the_replies i)
-each zero h = right_accepted 2 1 [] (find stubborn (0 ∷ []) 1 1 4096) (0 ∷ []) (1 ∷ []) (Answered (Spent 1)) refl (λ g u. let z : ◌≡◌ {A = ℕ} 0 1 = cc in omega arith) (Spent 1, refl, first_outcome)
-each (suc zero) h = right_accepted 2 1 [] (find stubborn (1 ∷ 7 ∷ []) 1 1 4096) (0 ∷ []) (0 ∷ []) (Answered (Nothing 1)) refl (λ g u. let z : ◌≡◌ {A = ℕ} 0 1 = cc in omega arith) (Nothing 1, refl, second_outcome)
+each zero h = right_accepted 2 1 [] (find stubborn (0 ∷ []) 1 1 4096) (0 ∷ []) (1 ∷ []) (Ok (Answered (Spent 1))) refl (λ g u. let z : ◌≡◌ {A = ℕ} 0 1 = cc in omega arith) (Spent 1, refl, first_outcome)
+each (suc zero) h = right_accepted 2 1 [] (find stubborn (1 ∷ 7 ∷ []) 1 1 4096) (0 ∷ []) (0 ∷ []) (Ok (Answered (Nothing 1))) refl (λ g u. let z : ◌≡◌ {A = ℕ} 0 1 = cc in omega arith) (Nothing 1, refl, second_outcome)
 each (suc (suc i)) h = absurd (omega arith)
 
 lawful : (i : ℕ) → i < length the_calls → (m : Meaning) (floor : List ℕ) (b n w : ℕ) → call_at the_calls i ≡ find m floor b n w → Laws m

@@ -1,13 +1,13 @@
 -- A search of one event and period 2 that is spent and resumed.
-use Rattle.std.specs.Prelude.{◌≡◌, ℕ, false, cond, List, [], ◌∷◌, take, nat_le}
+use Rattle.std.specs.Prelude.{◌≡◌, ℕ, false, cond, List, [], ◌∷◌, take, nat_le, Ok}
 use Rattle.minutes.specs.Minutes.{at}
 use Rattle.relations.specs.Meaning.{Meaning, Relation, Laws}
 use Rattle.calls.specs.Calls.{Call, find}
 use Rattle.search.specs.declared.Answer.TheVariants.{Nothing, Spent}
 use Rattle.search.specs.Search.{Way}
 use Rattle.search.specs.Theorems.{problem, SameMeaning}
-use Rattle.runs.specs.declared.requests.Reply.{Reply}
-use Rattle.runs.specs.declared.requests.Reply.TheVariants.{Answered}
+use Rattle.runs.specs.Requests.{Reply}
+use Rattle.runs.specs.declared.requests.Done.TheVariants.{Answered}
 use Rattle.runs.specs.Law.{places, allowed_at, FindAt, Determined, LawOverRuns}
 
 -- without the minutes of event 1
@@ -28,7 +28,7 @@ the_calls = find stubborn (0 ∷ []) 1 1 4096 ∷ find stubborn (1 ∷ 7 ∷ [])
 
 -- the first is spent and writes minute 1; the second answers none after one dead end
 abbrev pub the_replies : List Reply
-the_replies = Answered (Spent 1) ∷ Answered (Nothing 1) ∷ []
+the_replies = Ok (Answered (Spent 1)) ∷ Ok (Answered (Nothing 1)) ∷ []
 
 abbrev pub before : List ℕ
 before = 0 ∷ 0 ∷ []

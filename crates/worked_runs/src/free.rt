@@ -1,6 +1,5 @@
 //! A bank with no relation.
-ghost use Rattle.std.specs.Prelude.{[]};
-ghost use Rattle.worked_runs.specs.Free.{none};
+ghost use Rattle.worked_runs.specs.Free.{free, free_lawful};
 
 use bank::Bank;
 
@@ -11,23 +10,7 @@ pub struct Free {
 }
 
 impl Bank for Free {
-    ghost period = { λ s. s.period };
-
-    ghost reach = { λ _. 0 };
-
-    ghost relations = { λ _. [] };
-
-    ghost deflation = { λ _ k h. none k h };
-
-    ghost soundness = { λ _ k h. none k h };
-
-    ghost exactness = { λ _ k h. none k h };
-
-    ghost monotony = { λ _ k h. none k h };
-
-    ghost silence = { λ _ k h. none k h };
-
-    ghost confinement = { λ _ k h. none k h };
+    ghost meaning = { free };
 
     fn period(&self) -> u8 {
         self.period
@@ -48,4 +31,6 @@ impl Bank for Free {
     fn narrow(&self, _k: usize, _family: &mut [u64]) -> bool {
         false
     }
+
+    ghost laws = { free_lawful };
 }

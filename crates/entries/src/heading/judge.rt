@@ -8,27 +8,17 @@ use crate::heading::Heading;
 use crate::numerals::Numerals;
 use crate::tests::{event_fault, form_fault, journey_fault, span_fault};
 use records::{Journey, Span};
-use refusals::Refusal;
+use refusals::{Misfit, Refusal};
 use text::kind::Kind;
 
 // The span that these numbers are, at this place, or the first refusal that applies.
-fn span_entry(
-    n: &Numerals,
-    period: u8,
-    events: u16,
-    place: (usize, usize),
-) -> Result<Span, (Refusal, usize)>
+fn span_entry(n: &Numerals, period: u8, events: u16, place: (usize, usize)) -> Result<Span, Misfit>
     requires { period ≤ 64 }
-    ensures { MatchResult result (λ s. (span_tests period events n.now.values ≡ None) × (s ≡ span_noted n.now.values place)) (λ f. span_tests period events n.now.values ≡ Some f) }
+    ensures { MatchResult result (λ s. (span_tests period events n.now.values ≡ None) × (s ≡ span_noted n.now.values place)) (λ m. span_tests period events n.now.values ≡ Some (m.refusal, m.field)) }
 {
     let [index, from, to, lower, upper, weight, _, _] = n.values;
-    if let Some(field) = span_fault(index, lower, upper, weight, period) {
-        return Err((Refusal::Range, field));
-    }
-    let named = [from, to];
-    if let Some(field) = event_fault(&named, events, 2) {
-        return Err((Refusal::Event, field));
-    }
+    Refusal::Range.blame(span_fault(index, lower, upper, weight, period))?;
+    Refusal::Event.blame(event_fault(&[from, to], events, 2))?;
     Ok(Span {
         index: index as u16,
         from: from as u16,
@@ -41,28 +31,19 @@ fn span_entry(
 }
 
 // The journey that these numbers are, at this place, or the first refusal that applies.
-fn journey_entry(
-    n: &Numerals,
-    events: u16,
-    place: (usize, usize),
-) -> Result<Journey, (Refusal, usize)>
+fn journey_entry(n: &Numerals, events: u16, place: (usize, usize)) -> Result<Journey, Misfit>
     requires counted { well_counted_by journey_kind n.now.count ≡ true }
     requires zeros { (j : ℕ) → n.now.count ≤ j → at n.now.values j ≡ 0 }
-    ensures { MatchResult result (λ j. (journey_tests events n.now.count n.now.values ≡ None) × (j ≡ journey_noted n.now.count n.now.values place)) (λ f. journey_tests events n.now.count n.now.values ≡ Some f) }
+    ensures { MatchResult result (λ j. (journey_tests events n.now.count n.now.values ≡ None) × (j ≡ journey_noted n.now.count n.now.values place)) (λ m. journey_tests events n.now.count n.now.values ≡ Some (m.refusal, m.field)) }
 {
+    // No `chain @ ..` that is mapped: an array that stands for a part of another is not covered where it is passed on.
     let [index, cap, a, b, c, d, e, f] = n.values;
-    if let Some(field) = journey_fault(index, cap) {
-        return Err((Refusal::Range, field));
-    }
-    let values = n.values;
-    let count = n.count;
-    if let Some(field) = event_fault(&values[2..count], events, 4) {
-        return Err((Refusal::Event, field));
-    }
+    Refusal::Range.blame(journey_fault(index, cap))?;
+    Refusal::Event.blame(event_fault(&n.values[2..n.count], events, 4))?;
     Ok(Journey {
         index: index as u16,
         cap: cap as u16,
-        count: (count - 2) as u8,
+        count: (n.count - 2) as u8,
         chain: [a as u16, b as u16, c as u16, d as u16, e as u16, f as u16],
         place,
     })
@@ -71,24 +52,16 @@ fn journey_entry(
 impl Heading {
     // What a record line under this heading enters, or the first refusal that applies, with the field at fault. That a
     // table is full is no concern of the line, and is not tested here.
-    pub fn judge(&self, line: &[u8], place: (usize, usize)) -> Result<Entry, (Refusal, usize)>
+    pub fn judge(&self, line: &[u8], place: (usize, usize)) -> Result<Entry, Misfit>
         ensures { Judged self.now.period self.now.events (record { bytes = line.now; place = place }) result }
     {
         let kind = Kind::of(line);
         let n = Numerals::of(kind, line);
-        if let Some(field) = form_fault(kind, &n) {
-            return Err((Refusal::Form, field));
-        }
+        Refusal::Form.blame(form_fault(kind, &n))?;
         match kind {
-            Kind::Heading => Err((Refusal::Turn, 0)),
-            Kind::Span => match span_entry(&n, self.period, self.events, place) {
-                Ok(span) => Ok(Entry::Span(span)),
-                Err(fault) => Err(fault),
-            },
-            Kind::Journey => match journey_entry(&n, self.events, place) {
-                Ok(journey) => Ok(Entry::Journey(journey)),
-                Err(fault) => Err(fault),
-            },
+            Kind::Heading => Err(Misfit::from(Refusal::Turn)),
+            Kind::Span => span_entry(&n, self.period, self.events, place).map(Entry::Span),
+            Kind::Journey => journey_entry(&n, self.events, place).map(Entry::Journey),
         }
     }
 }

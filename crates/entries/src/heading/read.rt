@@ -4,7 +4,7 @@ ghost use Rattle.entries.specs.Verdicts.{Headed};
 use crate::heading::Heading;
 use crate::numerals::Numerals;
 use crate::tests::{form_fault, heading_fault};
-use refusals::Refusal;
+use refusals::{Misfit, Refusal};
 use text::kind::Kind;
 
 impl Heading {
@@ -21,25 +21,20 @@ impl Heading {
     }
 
     // The heading that a line is, or the first refusal that applies, with the field at fault.
-    pub fn read(line: &[u8]) -> Result<Heading, (Refusal, usize)>
+    pub fn read(line: &[u8]) -> Result<Heading, Misfit>
         ensures { Headed line.now result }
     {
         let kind = Kind::of(line);
         let n = Numerals::of(kind, line);
-        if let Some(field) = form_fault(kind, &n) {
-            return Err((Refusal::Form, field));
-        }
+        Refusal::Form.blame(form_fault(kind, &n))?;
         let Kind::Heading = kind else {
-            return Err((Refusal::Turn, 0));
+            return Err(Misfit::from(Refusal::Turn));
         };
-        let period = n.values[0];
-        let events = n.values[1];
-        match heading_fault(period, events) {
-            Some(field) => Err((Refusal::Range, field)),
-            None => Ok(Heading {
-                period: period as u8,
-                events: events as u16,
-            }),
-        }
+        let [period, events, ..] = n.values;
+        Refusal::Range.blame(heading_fault(period, events))?;
+        Ok(Heading {
+            period: period as u8,
+            events: events as u16,
+        })
     }
 }

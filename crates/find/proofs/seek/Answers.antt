@@ -1,6 +1,5 @@
-use Rattle.std.proofs.Common.{◌≡◌, ◌-◌, length, take, sym, ap, ◌∙◌, subst, arith}
+use Rattle.std.proofs.Common.{length, sym, refl, ap, ◌∙◌, subst, arith}
 use Rattle.std.proofs.lemmas.List.{length-take}
-use Rattle.bank.specs.Calls.{meant}
 use Rattle.search.specs.Search.{FloorOf}
 use Rattle.search.specs.Theorems.{problem}
 use Rattle.search.proofs.Floors.{head_from}
@@ -9,24 +8,23 @@ use Rattle.find.proofs.seek.Goals as goal
 
 pub walk-answer-requires : goal.walk-answer-requires
 walk-answer-requires g c =
-    let q = problem (meant (g.B.Bank.period c.args.bank.now) (g.B.Bank.reach c.args.bank.now) (g.B.Bank.relations c.args.bank.now)) c.args.allowed.now in
-    let n : length c.args.allowed.now - 0 ≡ length c.args.allowed.now = omega arith in
+    let q = problem (g.B.Bank.meaning c.args.bank.now.bank.now) c.args.allowed.now in
     record {
       posed = c.requires.posed;
-      floor = subst (λ z. FloorOf q z) (ap (λ k. take k c.args.floor.now) (sym n) ∙ sym c.copy_from_slice.ensures.after) (head_from q c.args.floor.now c.requires.floor);
-      edge = ap length c.copy_from_slice.ensures.after ∙ omega (arith, length-take (length c.args.allowed.now - 0) c.args.floor.now, c.requires.floor.long);
+      floor = subst (λ z. FloorOf q z) (sym c.copy_from_slice.ensures.after) (head_from q c.args.floor.now c.requires.floor);
+      edge = ap length c.copy_from_slice.ensures.after ∙ omega (arith, length-take (length c.args.allowed.now) c.args.floor.now, c.requires.floor.long);
       onward = c.copy_from_slice-2.ensures.after;
       root = c.split_at_mut-root.ensures.front_len;
       rest = c.split_at_mut-rest.ensures.front_len;
       child = c.split_at_mut-child.ensures.front_len;
-      sets = omega (arith, length-take (length c.args.allowed.now - 0) c.split_at_mut-child.result.1.now, c.split_at_mut-child.ensures.back_len, c.split_at_mut-rest.ensures.back_len, c.split_at_mut-root.ensures.back_len, c.requires.workspace);
+      sets = omega (arith, length-take (length c.args.allowed.now) c.split_at_mut-child.result.1.now, c.split_at_mut-child.ensures.back_len, c.split_at_mut-rest.ensures.back_len, c.split_at_mut-root.ensures.back_len, c.requires.workspace);
     }
 
 pub returns-in-Found : goal.returns-in-Found
-returns-in-Found g c = wrote_found _ c.requires.posed _ c.requires.floor _ _ _ (length c.args.allowed.now - 0) (let e : length c.args.allowed.now - 0 ≡ length c.args.allowed.now = omega arith in e) _ _ _ c.copy_from_slice.ensures.after c.walk-answer.ensures _ c.in-Found.is _ c.copy_from_slice-in-Found.ensures.after (omega (arith, c.copy_from_slice-in-Found.ensures.len, length-take (length c.args.allowed.now - 0) c.args.timetable.now, c.requires.timetable))
+returns-in-Found g c = wrote_found _ c.requires.posed _ c.requires.floor _ _ _ (length c.args.allowed.now) refl _ _ _ c.copy_from_slice.ensures.after c.walk-answer.ensures _ c.in-Found.is _ c.copy_from_slice-in-Found.ensures.after (omega (arith, c.copy_from_slice-in-Found.ensures.len, length-take (length c.args.allowed.now) c.args.timetable.now, c.requires.timetable))
 
 pub returns-in-Spent : goal.returns-in-Spent
-returns-in-Spent g c = wrote_spent _ c.requires.posed _ c.requires.floor _ _ _ (length c.args.allowed.now - 0) (let e : length c.args.allowed.now - 0 ≡ length c.args.allowed.now = omega arith in e) _ _ _ c.copy_from_slice.ensures.after c.walk-answer.ensures _ c.in-Spent.is _ c.copy_from_slice-in-Spent.ensures.after (omega (arith, c.copy_from_slice-in-Spent.ensures.len, length-take (length c.args.allowed.now - 0) c.args.timetable.now, c.requires.timetable))
+returns-in-Spent g c = wrote_spent _ c.requires.posed _ c.requires.floor _ _ _ (length c.args.allowed.now) refl _ _ _ c.copy_from_slice.ensures.after c.walk-answer.ensures _ c.in-Spent.is _ c.copy_from_slice-in-Spent.ensures.after (omega (arith, c.copy_from_slice-in-Spent.ensures.len, length-take (length c.args.allowed.now) c.args.timetable.now, c.requires.timetable))
 
 pub returns-in-Nothing : goal.returns-in-Nothing
-returns-in-Nothing g c = wrote_none _ c.requires.posed _ c.requires.floor _ _ _ (length c.args.allowed.now - 0) (let e : length c.args.allowed.now - 0 ≡ length c.args.allowed.now = omega arith in e) _ _ _ c.copy_from_slice.ensures.after c.walk-answer.ensures _ c.in-Nothing.is
+returns-in-Nothing g c = wrote_none _ c.requires.posed _ c.requires.floor _ _ _ (length c.args.allowed.now) refl _ _ _ c.copy_from_slice.ensures.after c.walk-answer.ensures _ c.in-Nothing.is

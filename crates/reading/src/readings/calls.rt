@@ -3,10 +3,10 @@ ghost use Rattle.text.specs.Kinds.{row_of};
 ghost use Rattle.reading.specs.Readings.{begun, taken, take_answer};
 ghost use Rattle.reading.specs.Views.{opened, closed, opened_result};
 
+use crate::places::Places;
 use crate::readings::{ClosedReading, OpenReading};
 use crate::tally::Tally;
 use entries::entry::Entry;
-use entries::heading::Heading;
 use records::{Journey, Span};
 use refusals::Fault;
 use text::kind::Line;
@@ -16,23 +16,8 @@ impl OpenReading {
     pub fn begin(line: Line) -> Result<OpenReading, Fault>
         ensures { opened_result result ≡ begun (row_of line.entry) }
     {
-        match Heading::read(line.bytes()) {
-            Ok(heading) => Ok(OpenReading {
-                tally: Tally {
-                    heading,
-                    spans: 0,
-                    journeys: 0,
-                },
-            }),
-            Err(refused) => {
-                let (refusal, field) = refused;
-                Err(Fault {
-                    refusal,
-                    field,
-                    place: line.place(),
-                })
-            }
-        }
+        let tally = Tally::begin(line)?;
+        Ok(OpenReading { tally })
     }
 
     // Enters the line's record in the table for its kind, or refuses the line, and then reading and tables are as before.
@@ -46,7 +31,7 @@ impl OpenReading {
         ensures after { record { reading = opened result.0; spans = spans.new; journeys = journeys.new } ≡ taken (record { reading = opened self; spans = spans.old; journeys = journeys.old }) (row_of line.entry) }
     {
         let OpenReading { tally } = self;
-        match tally.test(line, spans.len(), journeys.len()) {
+        match tally.test(line, Places::of(spans, journeys)) {
             Ok(entry) => {
                 let after = tally.after(entry);
                 match entry {

@@ -1,38 +1,32 @@
-use Rattle.std.proofs.Common.{◌≡◌, ℕ, ◌+◌, ◌<◌, List, length, take, set, sym, ap, ◌∙◌, subst, inl, inr, arith}
-use Rattle.std.proofs.lemmas.Bool.{cases_lt}
-use Rattle.std.proofs.lemmas.List.{get_or-set_same, get_or-set_other, ext_get_or, length-take, get_or-take}
+use Rattle.std.proofs.Common.{◌≡◌, ℕ, zero, suc, ◌+◌, ◌*◌, ◌%◌, ◌^◌, ◌<◌, List, [], ◌∷◌, length, take, set, refl, ap, ◌∙◌, arith}
+use Rattle.std.proofs.lemmas.List.{take_all, length-take}
+use Rattle.std.proofs.lemmas.Nat.{one_shl}
+use Rattle.std.proofs.lemmas.Nat.Bits.{and_pow}
+use lib.Bits.{bit_and}
 use Rattle.minutes.specs.Minutes.{at}
 use Rattle.search.specs.Search.{held, only}
-use Rattle.search.proofs.Held.{held_length, held_in, held_out}
-use Rattle.steps.proofs.Shifts.{only_shifts}
+use Rattle.search.proofs.Held.{held_out}
 use Rattle.steps.proofs.hold.Goals as goal
-use Rattle.steps.proofs.hold.Goals.{then-i-d, else-i-d}
 
--- one more place of a list that is filled from another
-filled : (f h g : List ℕ) (i v : ℕ) → g ≡ set f i v → i < length f → at h i ≡ v → ((k : ℕ) → k < i → at f k ≡ at h k) → (k : ℕ) → k < i + 1 → at g k ≡ at h k
-filled f h g i v e l w s k u = subst (λ z. at z k ≡ at h k) (sym e) (elim (cases_lt k i) [
-  | inl a ↦ get_or-set_other f i k v 0 (omega arith) ∙ s k a
-  | inr a ↦ let q : i ≡ k = omega arith in subst (λ z. at (set f i v) z ≡ at h z) q (get_or-set_same f i v 0 l ∙ sym w)
-])
+-- one event more keeps only its minute
+held_more : (p f : List ℕ) (i : ℕ) → i < length p → i < length f → set (held (take i p) f) i (only (at p i) (at f i)) ≡ held (take (suc i) p) f
+held_more [] f i h l = absurd (omega arith)
+held_more (m ∷ p) [] i h l = absurd (omega arith)
+held_more (m ∷ p) (s ∷ f) zero h l = refl
+held_more (m ∷ p) (s ∷ f) (suc i) h l = ap (λ z. only m s ∷ z) (held_more p f i (omega arith) (omega arith))
+
+keeps : (p f : List ℕ) (i : ℕ) → i < length p → i < length f → at p i < 64 → bit_and (at (held (take i p) f) i) ((1 * 2 ^ at p i) % 2 ^ 64) ≡ only (at p i) (at f i)
+keeps p f i h l w =
+    (λ j. bit_and (held_out (take i p) f i (omega (arith, length-take i p)) j) (one_shl (at p i) 64 w j)) ∙ and_pow (at f i) (at p i)
 
 pub loop-i-preserved : goal.loop-i-preserved
 loop-i-preserved c =
-    let il : c.loop-i.i < length c.loop-i.out = omega arith in
-    let ia : c.loop-i.i < length c.args.family.now = omega (arith, c.requires) in
-    let iy : c.loop-i.i < length c.args.minutes.now = omega (arith, c.requires) in
-    elim c.if-i-d.branch [
-      | then-i-d w ↦
-          filled _ (held (take c.args.d c.args.minutes.now) c.args.family.now) _ _ _ w.out-is il
-          (held_in (take c.args.d c.args.minutes.now) c.args.family.now c.loop-i.i (omega (arith, length-take c.args.d c.args.minutes.now, w.if-i-d.true)) ia
-          ∙ ap (λ z. only z (at c.args.family.now c.loop-i.i)) (get_or-take c.args.d c.args.minutes.now c.loop-i.i 0 w.if-i-d.true)
-          ∙ sym (only_shifts (at c.args.minutes.now c.loop-i.i) (at c.args.family.now c.loop-i.i) (c.requires.below c.loop-i.i w.if-i-d.true)))
-          c.loop-i.invariant
-      | else-i-d w ↦
-          filled _ (held (take c.args.d c.args.minutes.now) c.args.family.now) _ _ _ w.out-is il
-          (held_out (take c.args.d c.args.minutes.now) c.args.family.now c.loop-i.i (omega (arith, length-take c.args.d c.args.minutes.now, w.if-i-d.false)))
-          c.loop-i.invariant
-    ]
+    let p = c.args.prefix.list.now in
+    let f = c.args.family.now in
+    let i = c.loop-i.i in
+    let l : i < length f = omega (arith, c.requires) in
+    (λ j. set (c.loop-i.invariant j) i (bit_and (at (c.loop-i.invariant j) i) ((1 * 2 ^ at p i) % 2 ^ 64)))
+    ∙ ap (set (held (take i p) f) i) (keeps p f i c.loop-i-test.true l (c.args.prefix.low i c.loop-i-test.true)) ∙ held_more p f i c.loop-i-test.true l ∙ (let n : suc i ≡ i + 1 = omega arith in ap (λ k. held (take k p) f) n)
 
 pub returns : goal.returns
-returns c = ext_get_or 0 c.loop-i.out (held (take c.args.d c.args.minutes.now) c.args.family.now) (omega (arith, held_length (take c.args.d c.args.minutes.now) c.args.family.now, c.requires))
-    (λ k h. c.loop-i.invariant k (omega arith))
+returns c = c.loop-i.invariant ∙ ap (λ z. held z c.args.family.now) (take_all c.loop-i.i c.args.prefix.list.now (omega arith))

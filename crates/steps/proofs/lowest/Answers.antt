@@ -1,17 +1,18 @@
-use Rattle.std.proofs.Common.{◌≡◌, ◌/◌, ◌^◌, sym, ◌∙◌, subst, inl, inr, arith}
-use Rattle.std.proofs.lemmas.Bool.{cases_lt}
+use Rattle.std.proofs.Common.{ℕ, ◌<◌, ◌≤◌, Option, Some, None, MatchOption, arith, rules, tests}
+use Rattle.std.proofs.lemmas.Iterator.{first_from_Range}
 use Rattle.minutes.specs.Minutes.{In}
-use Rattle.steps.proofs.Shifts.{bit_one}
+use Rattle.steps.specs.Steps.{Lowest}
+use Rattle.std.proofs.lemmas.Nat.Bits.{shr_and_one}
 use Rattle.steps.proofs.lowest.Goals as goal
 
-pub returns-then-set-t-eq1 : goal.returns-then-set-t-eq1
-returns-then-set-t-eq1 c = record { left = sym (bit_one (c.args.set / 2 ^ c.loop-t.t)) ∙ c.if-set-t-eq1.true; above = c.loop-t.invariant.0; least = c.loop-t.invariant.1 }
+lowest_by : (s low period : ℕ) (o : Option ℕ) → MatchOption o ((t : ℕ) → low ≤ t → t < period → In t s → ⊥) (λ t. (low ≤ t) × (t < period) × In t s × ((v : ℕ) → low ≤ v → v < t → In v s → ⊥)) →
+    MatchOption o ((t : ℕ) → low ≤ t → t < period → In t s → ⊥) (λ t. Lowest s low t)
+lowest_by s low period None none = none
+lowest_by s low period (Some t) w = record { left = w.2; above = w.0; least = w.3 }
 
-pub loop-t-preserved : goal.loop-t-preserved
-loop-t-preserved c = (
-  omega arith,
-  λ v a b i. elim (cases_lt v c.loop-t.t) [
-    | inl l ↦ c.loop-t.invariant.1 v a l i
-    | inr l ↦ let e : v ≡ c.loop-t.t = omega arith in c.if-set-t-eq1.false (bit_one (c.args.set / 2 ^ c.loop-t.t) ∙ subst (λ z. In z c.args.set) e i)
-  ],
-)
+pub returns : goal.returns
+returns c =
+    let s = c.args.set in
+    lowest_by s c.args.low c.args.period c.find.result (first_from_Range _ _ _ _ (λ t. In t s) (λ t. In t s → ⊥) c.find.ensures.ran
+    (λ x q k. grind (arith, tests, shr_and_one))
+    (λ x q k. (search rules, grind (arith, tests, shr_and_one))))

@@ -1,9 +1,7 @@
-ghost use Rattle.std.specs.Prelude.{◌≡◌, ◌≤◌, [], ◌∷◌, length, if◌then◌else◌, Ok, Err, MatchOption, nat_le};
+ghost use Rattle.std.specs.Prelude.{◌≡◌, [], length, if◌then◌else◌, Ok, Err, nat_le};
 ghost use Rattle.refusals.specs.declared.Refusal.TheVariants.{Short};
-ghost use Rattle.text.specs.Fields.{kind_of};
 ghost use Rattle.text.specs.Rows.{rows, Lined, passed_over as passes, blank as all_blank};
-ghost use Rattle.text.specs.Kinds.{row_of, case_of};
-ghost use Rattle.text.specs.Handed.{rows_left};
+ghost use Rattle.text.specs.Handed.{rows_left, rows_of_result};
 
 use crate::kind::Line;
 use crate::lines::{Lines, TEXT_MOST};
@@ -14,23 +12,14 @@ use refusals::Refusal;
 fn blank(bytes: &[u8]) -> bool
     ensures { result ≡ all_blank bytes.now }
 {
-    for c in bytes {
-        if *c != b' ' {
-            return false;
-        }
-    }
-    true
+    bytes.iter().all(|c| *c == b' ')
 }
 
 // Whether a line is passed over: a comment, or a line of spaces or of nothing.
 fn passed_over(line: &[u8]) -> bool
     ensures { result ≡ passes line.now }
 {
-    match line {
-        [b'#', ..] => true,
-        [first, rest @ ..] => *first == b' ' && blank(rest),
-        [] => true,
-    }
+    blank(line) || matches!(line, [b'#', ..])
 }
 
 // The lines of a text give it back, and each row stands in it, whatever the text is.
@@ -49,27 +38,35 @@ impl<'t> Lines<'t> {
         }
     }
 
-    // Begins with the lines of the text, or refuses one of more than 60,000 bytes, and then goes on as it was.
-    pub fn open(&mut self, text: &'t [u8]) -> Result<(), Refusal>
-        ensures answer { result ≡ (if nat_le (length text.now) 60000 then Ok tt else Err Short) }
-        ensures rows { rows_left self.new ≡ (if nat_le (length text.now) 60000 then rows text.now else rows_left self.old) }
+    // The lines of a text, or a refusal of one of more than 60,000 bytes.
+    pub fn new(text: &'t [u8]) -> Result<Lines<'t>, Refusal>
+        ensures answer { rows_of_result result ≡ (if nat_le (length text.now) 60000 then Ok (rows text.now) else Err Short) }
         ensures lined { Lined text.now }
     {
         lined(text);
         if text.len() > TEXT_MOST {
             return Err(Refusal::Short);
         }
-        *self = Lines {
+        Ok(Lines {
             pieces: Pieces::new(text, b'\n'),
             offset: 0,
-        };
-        Ok(())
+        })
     }
+}
+
+impl<'t> Iterator for Lines<'t> {
+    ghost use Rattle.std.specs.Iterator.{item_count};
+    ghost use Rattle.text.specs.Handed.{YieldsLine};
+
+    type Item = Line<'t>;
+
+    ghost next_gives = { YieldsLine };
+
+    ghost remaining = { item_count rows_left };
 
     // The next line that is not passed over, or None where there is none.
-    pub fn next(&mut self) -> Option<Line<'t>>
-        ensures { MatchOption result ((rows_left self.old ≡ []) × (rows_left self.new ≡ [])) (λ l. (rows_left self.old ≡ row_of l ∷ rows_left self.new) × (case_of l ≡ kind_of (row_of l).bytes)) }
-    {
+    fn next(&mut self) -> Option<Line<'t>> {
+        // No `for` over `self.pieces.by_ref()`: while the pieces are lent, that the offset stays in range is not proved.
         while let Some(line) = self.pieces.next() {
             let place = (self.offset, line.len());
             self.offset += line.len() + 1;

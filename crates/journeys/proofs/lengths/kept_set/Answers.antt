@@ -7,7 +7,7 @@ use Rattle.journeys.proofs.lengths.kept_set.Goals.{then-within_cap, else-within_
 
 pub loop-m-preserved : goal.loop-m-preserved
 loop-m-preserved c =
-    let P : ℕ → Bool = λ m. has m c.args.set && leb (at c.args.here.now m + at c.args.next.now m) c.args.cap in
+    let P : ℕ → Bool = λ m. has m c.args.set && leb (at c.args.here.now.lengths m + at c.args.next.now.lengths m) c.args.cap in
     elim c.if-within_cap.branch [
       | then-within_cap w ↦ w.left-is ∙ those_yes c.loop-m.m P c.loop-m.left (omega arith) c.loop-m.invariant (sym c.within_cap.ensures ∙ w.if-within_cap.true)
       | else-within_cap w ↦ w.left-is ∙ those_no c.loop-m.m P c.loop-m.left c.loop-m.invariant (sym c.within_cap.ensures ∙ w.if-within_cap.false)

@@ -1,41 +1,38 @@
-use Rattle.std.proofs.Common.{◌≡◌, ◌-◌, ◌<◌, eqb, Some, None, Ok, sym, refl, ap, ◌∙◌, subst, arith}
-use Rattle.std.proofs.lemmas.Bool.{cond-true, cond-false, eq-eqb, ne_eqb}
-use Rattle.refusals.specs.declared.Refusal.TheVariants.{Level}
-use Rattle.calls.specs.Calls.{shut_level, shut_refusal, unless_refused}
-use Rattle.calls.specs.Replies.{reply}
-use Rattle.plan.specs.Contents.{shutting, with_levels}
-use Rattle.plan.specs.Decided.{Onward}
-use Rattle.plan.proofs.Shaping.{Shaped, shaped, shaped_shutting}
-use Rattle.plan.proofs.Holding.{holds_shut}
-use Rattle.plan.proofs.Going.{same_shut, onward_refused, onward_done}
+use Rattle.std.proofs.Common.{◌<◌, ◌^◌, ◌∷◌, [], ◌++◌, length, drop, rules, arith, sym, ap, ◌∙◌, subst}
+use Rattle.std.specs.List.{All}
+use Rattle.std.specs.List.Sorted.{IsNonDecreasing}
+use Rattle.std.proofs.lemmas.Grind.{common_steps}
+use Rattle.std.proofs.lemmas.List.{length-take-le}
+use Rattle.std.proofs.lemmas.List.Elements.{All-take, All-drop}
+use Rattle.plan.specs.declared.contents.Entry.{Entry}
+use Rattle.plan.specs.declared.contents.Contents.{Contents}
+use Rattle.plan.proofs.Going.{shut_on}
+use Rattle.plan.proofs.Shaping.{last_low, rise_alone, sets_back}
 use Rattle.plan.proofs.Plan.shut.Goals as goal
 
-pub returns-then-levels-eq0 : goal.returns-then-levels-eq0
-returns-then-levels-eq0 c =
-    let p = c.args.self.now.contents in
-    let is : shut_refusal p.levels ≡ Some Level = cond-true (eqb p.levels 0) _ _ (eq-eqb p.levels 0 c.if-levels-eq0.true) in
-    record {
-      answer = ap (λ z. reply z tt) (sym is);
-      plan = ap (λ z. unless_refused z (shutting p) p) (sym is);
-      list = λ cs d. onward_refused p shut_level cs d (shut_refusal p.levels) (same_shut p cs d) Level is;
-    }
+pub take_back-requires : goal.take_back-requires
+take_back-requires c = last_low c.args.self.now.contents.marks.items _ c.args.self.now.marks c.pop.new.self.items c.in-Some.mark c.in-Some.ensures.items
 
-pub invariant_of-self : goal.invariant_of-self
-invariant_of-self c =
+pub invariant_of-self-2-clause-sets : goal.invariant_of-self-2-clause-sets
+invariant_of-self-2-clause-sets c =
     let p = c.args.self.now.contents in
-    let h : Shaped (with_levels (p.levels - 1) c.take_back.new.self) =
-    subst (λ z. Shaped (with_levels (p.levels - 1) z)) (sym c.take_back.ensures) (shaped_shutting p (shaped c.args.self.now)) in
-    record { least = h.least; most = h.most; some = h.some; events = h.events; levels = h.levels; entries = h.entries; sets = h.sets; cuts = h.cuts; marks = h.marks }
+    subst (λ (q : Contents). All (λ set. set < 2 ^ q.period) q.allowed) (sym c.take_back.ensures)
+    (sets_back (λ set. set < 2 ^ p.period) (drop c.in-Some.mark p.trail.items) p.allowed (All-drop (λ (e : Entry). e.set < 2 ^ p.period) c.in-Some.mark p.trail.items c.args.self.now.cuts) c.args.self.now.sets)
 
-pub returns : goal.returns
-returns c =
+pub invariant_of-self-2-clause-cuts : goal.invariant_of-self-2-clause-cuts
+invariant_of-self-2-clause-cuts c =
     let p = c.args.self.now.contents in
-    let is : shut_refusal p.levels ≡ None = cond-false (eqb p.levels 0) _ _ (ne_eqb p.levels 0 c.if-levels-eq0.false) in
-    let q : with_levels (p.levels - 1) c.take_back.new.self ≡ shutting p = ap (with_levels (p.levels - 1)) c.take_back.ensures in
-    let deep : 0 < p.levels = omega (arith, c.if-levels-eq0.false) in
-    record {
-      answer = ap (λ z. reply z tt) (sym is);
-      plan = q ∙ ap (λ z. unless_refused z (shutting p) p) (sym is);
-      list = λ cs d. subst (λ z. Onward p shut_level z (Ok tt) cs) (sym q)
-          (onward_done p shut_level cs d (shut_refusal p.levels) (same_shut p cs d) (shutting p) is refl refl (holds_shut p _ deep d));
-    }
+    subst (λ (q : Contents). All (λ (e : Entry). e.set < 2 ^ q.period) q.trail.items) (sym c.take_back.ensures) (All-take (λ (e : Entry). e.set < 2 ^ p.period) c.in-Some.mark p.trail.items c.args.self.now.cuts)
+
+pub invariant_of-self-2-clause-marks : goal.invariant_of-self-2-clause-marks
+invariant_of-self-2-clause-marks c =
+    let p = c.args.self.now.contents in
+    let low = last_low p.marks.items _ c.args.self.now.marks c.pop.new.self.items c.in-Some.mark c.in-Some.ensures.items in
+    subst (λ (q : Contents). IsNonDecreasing (q.marks.items ++ length q.trail.items ∷ [])) (sym c.take_back.ensures)
+    (subst IsNonDecreasing (c.in-Some.ensures.items ∙ ap (λ n. c.pop.new.self.items ++ n ∷ []) (sym (length-take-le c.in-Some.mark p.trail.items low))) (rise_alone p.marks.items _ c.args.self.now.marks))
+
+pub returns-in_default-clause-list : goal.returns-in_default-clause-list
+returns-in_default-clause-list c = shut_on _ _ _ (search rules) (search rules)
+
+pub returns-clause-list : goal.returns-clause-list
+returns-clause-list c = shut_on _ _ _ (search rules) (grind (arith, common_steps))

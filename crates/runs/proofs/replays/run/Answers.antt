@@ -1,7 +1,6 @@
 use Rattle.std.proofs.Common.{◌≡◌, ◌+◌, ◌-◌, ◌*◌, ◌≤◌, List, length, take, drop, sym, ap, ◌∙◌, subst, arith}
 use Rattle.std.proofs.lemmas.List.{length-map, get_or-map, length-take, length-drop}
 use Rattle.relations.specs.Meaning.{Meaning}
-use Rattle.bank.specs.Calls.{meant}
 use Rattle.calls.specs.Calls.{Call, open_level}
 use Rattle.calls.specs.Standing.{call_at}
 use Rattle.runs.specs.Requests.{call_of, calls_of}
@@ -13,14 +12,14 @@ use Rattle.runs.proofs.replays.run.Goals as goal
 pub loop-i-init : goal.loop-i-init
 loop-i-init g c = running_none _ _ _ _ _ c.requires.new
 
-pub slice_bounds-make_call-end : goal.slice_bounds-make_call-end
-slice_bounds-make_call-end g c =
+pub slice_bounds-timetable-end : goal.slice_bounds-timetable-end
+slice_bounds-timetable-end g c =
     let h : c.loop-i.i * c.events-places.result + c.events-places.result ≤ length c.loop-i.timetables =
     row_fits c.loop-i.i (length c.args.requests.now) c.events-places.result c.args.plan.now.contents.events (length c.loop-i.timetables) c.loop-i-test.true c.events-places.ensures (omega (arith, c.requires.timetables, c.loop-i.auto.timetables)) in
     h
 
-pub make_call-reply-requires : goal.make_call-reply-requires
-make_call-reply-requires g c =
+pub make_call-requires : goal.make_call-requires
+make_call-requires g c =
     let r = c.events-places.result in
     let a = c.loop-i.i * r in
     let h : a + r ≤ length c.loop-i.timetables =
@@ -30,7 +29,7 @@ make_call-reply-requires g c =
 
 pub loop-i-preserved : goal.loop-i-preserved
 loop-i-preserved g c =
-    let f : g.row.B.Denot → Meaning = λ b. meant (g.B.Bank.period b) (g.B.Bank.reach b) (g.B.Bank.relations b) in
+    let f : g.row.B.Denot → Meaning = g.B.Bank.meaning in
     let p = c.args.plan.now.contents in
     let requests = c.args.requests.now in
     let w = length c.args.workspace.now in
@@ -48,22 +47,22 @@ loop-i-preserved g c =
     ∙ sym (get_or-map (call_of f p.events w) requests c.loop-i.i request open_level c.loop-i-test.true) in
     let old : take (a + r - a) (drop a c.loop-i.timetables) ≡ places p.events c.loop-i.timetables c.loop-i.i =
     ap (λ z. take z (drop a c.loop-i.timetables)) k ∙ ap (λ z. take p.events (drop z c.loop-i.timetables)) ea in
-    let on : GoesOn now_p (call_at cs c.loop-i.i) c.make_call-reply.new.plan.contents (places p.events c.loop-i.timetables c.loop-i.i) c.make_call-reply.new.timetable c.make_call-reply.result =
-    subst (λ z. GoesOn now_p z c.make_call-reply.new.plan.contents (places p.events c.loop-i.timetables c.loop-i.i) c.make_call-reply.new.timetable c.make_call-reply.result) call
-    (subst (λ z. GoesOn now_p (call_of f now_p.events (length c.loop-i.workspace) request) c.make_call-reply.new.plan.contents z c.make_call-reply.new.timetable c.make_call-reply.result) old c.make_call-reply.ensures.on) in
+    let on : GoesOn now_p (call_at cs c.loop-i.i) c.make_call.new.plan.contents (places p.events c.loop-i.timetables c.loop-i.i) c.make_call.new.timetable c.make_call.result =
+    subst (λ z. GoesOn now_p z c.make_call.new.plan.contents (places p.events c.loop-i.timetables c.loop-i.i) c.make_call.new.timetable c.make_call.result) call
+    (subst (λ z. GoesOn now_p (call_of f now_p.events (length c.loop-i.workspace) request) c.make_call.new.plan.contents z c.make_call.new.timetable c.make_call.result) old c.make_call.ensures.on) in
     let fits : a + r ≤ length c.loop-i.timetables =
     row_fits c.loop-i.i (length requests) r p.events (length c.loop-i.timetables) c.loop-i-test.true e (omega (arith, c.requires.timetables, c.loop-i.auto.timetables)) in
-    let len : length c.make_call-reply.new.timetable ≡ p.events =
-    c.make_call-reply.auto.timetable ∙ (let z : length (take (a + r - a) (drop a c.loop-i.timetables)) ≡ p.events = omega (arith, fits, e, length-take (a + r - a) (drop a c.loop-i.timetables), length-drop a c.loop-i.timetables) in z) in
-    ran_by p.period p.events cs c.loop-i.i now_p c.make_call-reply.new.plan.contents c.args.replies.now c.loop-i.replies c.args.timetables.now c.loop-i.timetables
-    c.args.workspace.now c.loop-i.workspace c.make_call-reply.new.workspace c.make_call-reply.new.timetable c.make_call-reply.result
+    let len : length c.make_call.new.timetable ≡ p.events =
+    c.make_call.auto.timetable ∙ (let z : length (take (a + r - a) (drop a c.loop-i.timetables)) ≡ p.events = omega (arith, fits, e, length-take (a + r - a) (drop a c.loop-i.timetables), length-drop a c.loop-i.timetables) in z) in
+    ran_by p.period p.events cs c.loop-i.i now_p c.make_call.new.plan.contents c.args.replies.now c.loop-i.replies c.args.timetables.now c.loop-i.timetables
+    c.args.workspace.now c.loop-i.workspace c.make_call.new.workspace c.make_call.new.timetable c.make_call.result
     c.loop-i.invariant (omega (arith, many, c.loop-i-test.true)) (omega (arith, many, c.requires.replies, c.loop-i.auto.replies))
     (subst (λ z. z * p.events ≤ length c.loop-i.timetables) (sym many) (omega (arith, c.requires.timetables, c.loop-i.auto.timetables)))
-    on c.make_call-reply.ensures.workspace len a (a + r - a) ea k
+    on c.make_call.ensures.workspace len a (a + r - a) ea k
 
 pub returns : goal.returns
 returns g c =
-    let f : g.row.B.Denot → Meaning = λ b. meant (g.B.Bank.period b) (g.B.Bank.reach b) (g.B.Bank.relations b) in
+    let f : g.row.B.Denot → Meaning = g.B.Bank.meaning in
     let p = c.args.plan.now.contents in
     let cs = calls_of f p.events (length c.args.workspace.now) c.args.requests.now in
     let e : c.loop-i.i ≡ length c.args.requests.now = omega (arith, c.loop-i-test.false, c.loop-i.auto.i-end) in

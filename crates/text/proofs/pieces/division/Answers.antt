@@ -1,5 +1,6 @@
 use Rattle.text.proofs.Division.{divided}
+use Rattle.text.proofs.Dividing.{few_pieces}
 use Rattle.text.proofs.pieces.division.Goals as goal
 
 pub returns : goal.returns
-returns c = divided _ _
+returns c = record { division = divided _ _; few = few_pieces _ _ }

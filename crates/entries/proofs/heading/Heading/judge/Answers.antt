@@ -1,60 +1,21 @@
-use Rattle.std.proofs.Common.{◌≡◌, true, Some, None, sym, ap, ◌∙◌, subst}
+use Rattle.std.proofs.Common.{◌≡◌, ◌-◌, map, take, drop, sym, ◌∙◌, rules, arith}
+use Rattle.std.proofs.lemmas.Grind.{common_steps}
 use Rattle.text.specs.declared.kind.Kind.TheVariants.{Span, Journey}
-use Rattle.entries.specs.declared.entry.Entry.TheVariants as entry
-use Rattle.entries.specs.Form.{form_fault}
-use Rattle.entries.specs.Noted.{well_counted_by}
-use Rattle.entries.proofs.Judging.{noted_line, noted_kind, zeros, span_refused, span_entered, journey_refused, journey_entered}
+use Rattle.text.specs.Fields.{kind_of}
+use Rattle.entries.specs.Form.{values, value_or_zero}
+use Rattle.entries.proofs.Judging.{chain_part}
 use Rattle.entries.proofs.heading.Heading.judge.Goals as goal
 
-pub journey_entry-requires : goal.journey_entry-requires
-journey_entry-requires c = record {
-  counted = subst (λ k. well_counted_by k c.of-n.result.count ≡ true) c.in-Journey.is c.in_default.ensures.counted;
-  zeros = zeros _ _ c.of-n.result c.of-n.ensures;
-}
-
-pub returns-in-Ok : goal.returns-in-Ok
-returns-in-Ok c =
+pub returns-in-Journey : goal.returns-in-Journey
+returns-in-Journey c =
     let line = c.args.line.now in
     let n = c.of-n.result in
-    let told = c.of-kind.ensures in
-    let noted = noted_line line n c.of-kind.result told c.of-n.ensures in
-    let at_kind = noted_kind line n c.of-kind.result Span c.in-Span.is noted in
-    let formed : form_fault line ≡ None = sym (c.in_default.ensures.fault line told noted) in
-    let is = sym told ∙ c.in-Span.is in (
-      span_refused _ _ line n formed is at_kind ∙ c.in-Ok.ensures.0,
-      span_entered (record { bytes = line; place = c.args.place }) n is at_kind ∙ ap (λ s. Some (entry.Span s)) (sym c.in-Ok.ensures.1),
-    )
+    let is : kind_of line ≡ Journey = sym c.of-kind.ensures ∙ c.in-Journey.is in
+    let chain : map value_or_zero (drop 2 (values line)) ≡ take (n.count - 2) (drop 2 n.values) = chain_part (values line) n (search rules) (search rules) (search rules) in
+    search rules
 
-pub returns-in-Err : goal.returns-in-Err
-returns-in-Err c =
-    let line = c.args.line.now in
-    let n = c.of-n.result in
-    let told = c.of-kind.ensures in
-    let noted = noted_line line n c.of-kind.result told c.of-n.ensures in
-    let formed : form_fault line ≡ None = sym (c.in_default.ensures.fault line told noted) in
-    span_refused _ _ line n formed (sym told ∙ c.in-Span.is) (noted_kind line n c.of-kind.result Span c.in-Span.is noted) ∙ c.in-Err.ensures
-
-pub returns-in-Ok-journey_entry : goal.returns-in-Ok-journey_entry
-returns-in-Ok-journey_entry c =
-    let line = c.args.line.now in
-    let n = c.of-n.result in
-    let told = c.of-kind.ensures in
-    let noted = noted_line line n c.of-kind.result told c.of-n.ensures in
-    let at_kind = noted_kind line n c.of-kind.result Journey c.in-Journey.is noted in
-    let formed : form_fault line ≡ None = sym (c.in_default.ensures.fault line told noted) in
-    let is = sym told ∙ c.in-Journey.is in
-    let counted = subst (λ k. well_counted_by k c.of-n.result.count ≡ true) c.in-Journey.is c.in_default.ensures.counted in (
-      journey_refused c.args.self.now.period _ line n formed is at_kind counted ∙ c.in-Ok-journey_entry.ensures.0,
-      journey_entered (record { bytes = line; place = c.args.place }) n is at_kind ∙ ap (λ s. Some (entry.Journey s)) (sym c.in-Ok-journey_entry.ensures.1),
-    )
-
-pub returns-in-Err-journey_entry : goal.returns-in-Err-journey_entry
-returns-in-Err-journey_entry c =
-    let line = c.args.line.now in
-    let n = c.of-n.result in
-    let told = c.of-kind.ensures in
-    let noted = noted_line line n c.of-kind.result told c.of-n.ensures in
-    let formed : form_fault line ≡ None = sym (c.in_default.ensures.fault line told noted) in
-    let counted = subst (λ k. well_counted_by k c.of-n.result.count ≡ true) c.in-Journey.is c.in_default.ensures.counted in
-    journey_refused c.args.self.now.period _ line n formed (sym told ∙ c.in-Journey.is) (noted_kind line n c.of-kind.result Journey c.in-Journey.is noted) counted
-    ∙ c.in-Err-journey_entry.ensures
+pub returns-in-Span : goal.returns-in-Span
+returns-in-Span c =
+    let is : kind_of c.args.line.now ≡ Span = sym c.of-kind.ensures ∙ c.in-Span.is in
+    let nth = c.of-n.ensures.nth in
+    grind (arith, common_steps, is, nth)

@@ -1,9 +1,7 @@
-use Rattle.std.proofs.Common.{◌-◌}
-use Rattle.plan.proofs.Taking.{Taking}
+use Rattle.std.proofs.Common.{◌≡◌, map, reverse}
+use Rattle.plan.specs.Contents.{given_back}
 use Rattle.plan.proofs.contents.Contents.take_back.Given as goal
 
-abbrev pub invariant-loop-n : goal.invariant-loop-n
-invariant-loop-n l = Taking l.initial.self l.self l.mark l.n
-
-abbrev pub decreases-loop-n : goal.decreases-loop-n
-decreases-loop-n l = l.n - l.mark
+-- the entries so far, from the last down, are put back
+abbrev pub invariant-loop-place : goal.invariant-loop-place
+invariant-loop-place l = l.self.1.1.1.0 ≡ given_back (reverse (map (λ e. e.now) l.yielded)) l.fn.self.allowed
