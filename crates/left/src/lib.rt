@@ -16,7 +16,7 @@ fn left_at<B: Bank>(bank: &FitBank<B>, family: &mut [u64], place: usize) -> u64
     requires place { place < length family.old }
     ensures { Left (B.meaning bank.now.bank.now) family.old (place + 1) result }
 {
-    let alive = bank.settle(family);
+    let alive = bank.narrow_to_rest(family);
     if alive { family[place] } else { 0 }
 }
 

@@ -57,12 +57,13 @@ impl<'b, B: Bank> FitBank<'b, B> {
         !family.contains(&0)
     }
 
-    // Turns a family into its rest.
-    pub fn narrow_to_rest(&self, family: &mut [u64])
+    // Turns a family into its rest, and says whether no set of it is empty.
+    pub fn narrow_to_rest(&self, family: &mut [u64]) -> bool
         requires { Suits (B.meaning self.now.bank.now) family.old }
-        ensures { Rest (B.meaning self.now.bank.now) family.old family.new }
+        ensures rest { Rest (B.meaning self.now.bank.now) family.old family.new }
+        ensures settles { Settles (B.meaning self.now.bank.now) family.old family.new result }
     {
-        let _ = self.take_turns(family, false);
+        self.take_turns(family, false)
     }
 
     // Whether no set of the family's rest is empty. Where that is so, it turns the family into the rest; else it may stop

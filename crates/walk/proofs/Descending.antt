@@ -1,7 +1,7 @@
 -- Going down from the rest of a prefix to that of one minute more.
 use Rattle.std.proofs.Common.{◌≡◌, ℕ, ◌+◌, ◌*◌, ◌%◌, ◌^◌, ◌<◌, ◌≤◌, Bool, true, false, List, length, sym, refl, ap, ◌∙◌, subst, inl, inr, arith}
 use Rattle.std.proofs.lemmas.Nat.{one_shl}
-use Rattle.std.proofs.lemmas.Bool.{cases_Bool, cases_lt, false≢true}
+use Rattle.std.proofs.lemmas.Bool.{cases_lt, false≢true}
 use Rattle.minutes.specs.Minutes.{In, at, NoneEmpty}
 use Rattle.relations.specs.Meaning.{Meaning}
 use Rattle.rest.specs.Rest.{Rest}
@@ -50,10 +50,3 @@ module _ (m : Meaning) (p' r : List ℕ) (short : length p' ≤ length r) where
           dead = λ u. absurd (false≢true (sym u));
           kept = λ u. absurd (false≢true (sym u));
         })
-
--- where the rest has no empty set, settling comes to it
-pub comes : (m : Meaning) (f g : List ℕ) (b : Bool) → Settles m f g b → (r : List ℕ) × Rest m f r × NoneEmpty r → Rest m f g
-comes m f g b s alive = elim (cases_Bool b) [
-  | inl e ↦ s.rest e
-  | inr e ↦ absurd (s.dead e alive.0 alive.1 alive.2)
-]

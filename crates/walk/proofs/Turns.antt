@@ -17,7 +17,7 @@ use Rattle.search.proofs.Worth.{ahead}
 use Rattle.steps.specs.Steps.{Lowest}
 use Rattle.walk.specs.Walking.{Refreshed, Extends, Descended}
 use Rattle.settle.specs.Settles.{Settles}
-use Rattle.walk.proofs.Children.{rest_on, rest_back}
+use Rattle.walk.proofs.Children.{rest_on}
 use Rattle.walk.proofs.State.{State, st_start, less_raised, st_dead, st_up, st_down, less_lowered, st_found, st_dead_root, st_none, st_spent}
 
 -- the search has come so far, in whichever way it narrows: the first d minutes of y are alive, and sets has what each of these
@@ -90,9 +90,6 @@ module _ {q : Problem} (posed : WellPosed q) where
 
     within : length (take d y) ≤ events q
     within = omega (arith, long d (omega (arith, w.deep)), w.deep)
-
-    pub rest_alive : (s : List ℕ) × Rest q.meaning (held (take d y) root) s × NoneEmpty s
-    rest_alive = let o = some_way q posed in (rest_of q o (take d y), rest_back q.meaning q.allowed [] (take d y) root begins within w.base (rest_of q o (take d y)) (here o), w.alive o)
 
     pub front_short : length (take d y) ≤ length root
     front_short = omega (arith, within, root_length)

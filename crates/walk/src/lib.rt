@@ -1,9 +1,9 @@
 //! The search for the earliest timetable (internal: what calls it has tested plan, floor and bank).
 #![tactic(auto)]
 
-ghost use Rattle.std.specs.Prelude.{◌≡◌, ℕ, ◌<◌, ◌≤◌, List, length};
+ghost use Rattle.std.specs.Prelude.{◌≡◌, ◌<◌, ◌≤◌, length};
 ghost use Rattle.minutes.specs.Minutes.{NoneEmpty};
-ghost use Rattle.rest.specs.Rest.{Rest, Suits};
+ghost use Rattle.rest.specs.Rest.{Suits};
 ghost use Rattle.search.specs.Search.{held, WellPosed, FloorOf, Way, Finds};
 ghost use Rattle.search.specs.Theorems.{problem};
 ghost use Rattle.settle.specs.Settles.{Settles};
@@ -17,29 +17,29 @@ use steps::{Prefix, hold, lower, lowest, raise};
 // That a family suits the bank and is as long as another stands at each of these: they are lent to be changed, so no type of
 // ours can hold it.
 
-// Narrows `into`, from the rest of a shorter prefix, to the rest of this one, and says whether no set of that is empty; where
-// one is, `into` is of no use.
-fn narrow<B: Bank>(bank: &FitBank<B>, from: &[u64], prefix: Prefix, into: &mut [u64]) -> bool
-    requires suits { Suits (B.meaning bank.now.bank.now) from.now }
-    requires into { length into.old ≡ length from.now }
-    requires short { length prefix.list.now ≤ length from.now }
-    ensures { Settles (B.meaning bank.now.bank.now) (held prefix.entry.list.now from.now) into.new result }
-{
-    hold(from, prefix, into);
-    bank.settle(into)
-}
-
-// Goes back where `rest` is stale: it becomes the rest of the prefix, which is alive, from the rest of the allowed family.
+// Goes back where `rest` is stale: it becomes the rest of the prefix, from the rest of the allowed family.
 fn refresh<B: Bank>(bank: &FitBank<B>, stale: bool, root: &[u64], prefix: Prefix, rest: &mut [u64])
     requires suits { Suits (B.meaning bank.now.bank.now) root.now }
-    requires alive { (r : List ℕ) × Rest (B.meaning bank.now.bank.now) (held prefix.list.now root.now) r × NoneEmpty r }
     requires rest { length rest.old ≡ length root.now }
     requires short { length prefix.list.now ≤ length root.now }
     ensures { Refreshed (B.meaning bank.now.bank.now) (held prefix.entry.list.now root.now) rest.old rest.new stale }
 {
     if stale {
-        narrow(bank, root, prefix, rest);
+        hold(root, prefix, rest);
+        bank.narrow_to_rest(rest);
     }
+}
+
+// Narrows `child`, from the rest of a shorter prefix, to the rest of this one, and says whether no set of that is empty; where
+// one is, `child` is of no use.
+fn narrow_child<B: Bank>(bank: &FitBank<B>, rest: &[u64], prefix: Prefix, child: &mut [u64]) -> bool
+    requires suits { Suits (B.meaning bank.now.bank.now) rest.now }
+    requires child { length child.old ≡ length rest.now }
+    requires short { length prefix.list.now ≤ length rest.now }
+    ensures { Settles (B.meaning bank.now.bank.now) (held prefix.entry.list.now rest.now) child.new result }
+{
+    hold(rest, prefix, child);
+    bank.settle(child)
 }
 
 // Goes down to this prefix, from the rest of the one without its last minute, by way of `child`, and says whether no set of
@@ -56,7 +56,7 @@ fn descend<B: Bank>(bank: &FitBank<B>, prefix: Prefix, rest: &mut [u64], child: 
     if rest[last] == 1u64 << prefix.list[last] {
         return true;
     }
-    if narrow(bank, rest, prefix, child) {
+    if narrow_child(bank, rest, prefix, child) {
         rest.copy_from_slice(child);
         return true;
     }
@@ -91,7 +91,7 @@ pub fn walk<B: Bank>(
 {
     let period = bank.bank.period();
     root.copy_from_slice(allowed);
-    if !bank.settle(root) {
+    if !bank.narrow_to_rest(root) {
         return Answer::Nothing(0);
     }
     rest.copy_from_slice(root);

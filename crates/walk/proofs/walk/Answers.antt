@@ -1,13 +1,13 @@
 use Rattle.std.proofs.Common.{◌∙◌, arith}
 use Rattle.std.proofs.lemmas.List.{length-set}
-use Rattle.walk.proofs.Turns.{turn_start, end_at_once, root_suits, root_length, rest_alive, front_short, rest_suits, rest_length, rest_full, child_some, child_short, child_low, end_none, up_less, turn_up, down_less, down_low, turn_down, end_found, end_spent, dead_less, turn_dead}
+use Rattle.walk.proofs.Turns.{turn_start, end_at_once, root_suits, root_length, front_short, rest_suits, rest_length, rest_full, child_some, child_short, child_low, end_none, up_less, turn_up, down_less, down_low, turn_down, end_found, end_spent, dead_less, turn_dead}
 use Rattle.walk.proofs.walk.Goals as goal
 
-pub returns-then-not-settle : goal.returns-then-not-settle
-returns-then-not-settle g c = end_at_once c.requires.posed _ c.requires.floor c.requires.edge c.copy_from_slice.ensures.after c.settle.ensures c.if-not-settle.true
+pub returns-then-not-narrow_to_rest : goal.returns-then-not-narrow_to_rest
+returns-then-not-narrow_to_rest g c = end_at_once c.requires.posed _ c.requires.floor c.requires.edge c.copy_from_slice.ensures.after c.narrow_to_rest.ensures.settles c.if-not-narrow_to_rest.true
 
 pub turns-init : goal.turns-init
-turns-init g c = turn_start c.requires.posed _ c.requires.floor c.requires.edge c.copy_from_slice.ensures.after c.settle.ensures c.if-not-settle.false c.copy_from_slice-2.ensures.after c.requires.onward _ (omega (arith, c.requires.sets, c.requires.posed.some))
+turns-init g c = turn_start c.requires.posed _ c.requires.floor c.requires.edge c.copy_from_slice.ensures.after c.narrow_to_rest.ensures.settles c.if-not-narrow_to_rest.false c.copy_from_slice-2.ensures.after c.requires.onward _ (omega (arith, c.requires.sets, c.requires.posed.some))
 
 pub returns-then-d-eq0 : goal.returns-then-d-eq0
 returns-then-d-eq0 g c = end_none c.requires.posed c.turns.invariant c.period-period.ensures c.in_default.ensures c.if-d-eq0.true
@@ -21,7 +21,6 @@ turns-preserved-in_default g c = turn_up c.requires.posed c.turns.invariant c.pe
 pub refresh-requires : goal.refresh-requires
 refresh-requires g c = record {
   suits = root_suits c.requires.posed c.turns.invariant c.period-period.ensures;
-  alive = rest_alive c.requires.posed c.turns.invariant c.period-period.ensures;
   rest = omega (arith, c.turns.auto.rest, c.copy_from_slice-2.ensures.len, c.requires.rest, root_length c.requires.posed c.turns.invariant c.period-period.ensures);
   short = front_short c.requires.posed c.turns.invariant c.period-period.ensures;
 }
