@@ -58,7 +58,7 @@ impl ClosedReading {
         whole(text, spans, journeys);
         let mut lines = Lines::new(text)?;
         let heading = lines.next().ok_or(Refusal::Turn)?;
-        let tally = Tally::begin(heading)?;
+        let OpenReading { tally } = OpenReading::begin(heading)?;
         test_all(tally, lines, Places::of(spans, journeys))?;
         Ok(take_all(OpenReading { tally }, lines, spans, journeys).close())
     }
