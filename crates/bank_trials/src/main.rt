@@ -3,10 +3,10 @@
 
 use crate::dice::Dice;
 use crate::trial::Tally;
+use bank::Bank;
 use reading::readings::ClosedReading;
 use records::{Journey, Span};
 use refusals::Refusal;
-use std::alloc::{AllocError, Global};
 use std::{fmt, io};
 use table_banks::{JourneyBank, SpanBank};
 
@@ -20,6 +20,10 @@ mod trial;
 const TABLES: usize = 10;
 
 const ROUNDS: usize = 10;
+
+// Six events with eight spans and eight journeys, which the trials replace by others; the period's two digits are still 0.
+const INSTANCE: &[u8; 183] =
+    b"T;00;6\n1;1;2;0;0;0\n1;1;2;0;0;0\n1;1;2;0;0;0\n1;1;2;0;0;0\n1;1;2;0;0;0\n1;1;2;0;0;0\n1;1;2;0;0;0\n1;1;2;0;0;0\nJ;1;0;1;2\nJ;1;0;1;2\nJ;1;0;1;2\nJ;1;0;1;2\nJ;1;0;1;2\nJ;1;0;1;2\nJ;1;0;1;2\nJ;1;0;1;2\n";
 
 // What was compared: answers of spans, of journeys, and of both joined, waived and checked.
 #[derive(Clone, Copy, Default)]
@@ -65,38 +69,44 @@ fn trials_with(
     spans.fill(reading, s)?;
     let mut journeys = JourneyBank::blank();
     journeys.fill(reading, j)?;
+    // the same for both, so that a bank of another period would be noticed
+    let period = spans.period();
     for _ in 0..ROUNDS {
-        trial::records_once(&spans, s, 2, dice, &mut tallies.spans);
-        trial::records_once(&journeys, j, 4, dice, &mut tallies.journeys);
+        trial::records_once(&spans, s, period, 2, dice, &mut tallies.spans);
+        trial::records_once(&journeys, j, period, 4, dice, &mut tallies.journeys);
         joined::joined_once(spans, journeys, dice, &mut tallies.both);
     }
     Ok(())
 }
 
+// The instance at a period. It is no text on the heap, since a trial is not to fail for want of memory.
+fn instance_at(period: u8) -> [u8; 183] {
+    let mut text = *INSTANCE;
+    text[2] = b'0' + period / 10;
+    text[3] = b'0' + period % 10;
+    text
+}
+
 // What was compared at a period.
-fn trials_at(heap: Global, period: u8) -> Result<Tallies, AllocError> {
+fn trials_at(period: u8) -> Tallies {
     let mut dice = Dice::new(u64::from(period));
     let mut tallies = Tallies::default();
-    // eight spans and eight journeys, which the trials replace by others
-    let spans = "1;1;2;0;0;0\n".repeat(heap, 8)?;
-    let journeys = "J;1;0;1;2\n".repeat(heap, 8)?;
-    let text = format!(in heap; "T;{period};6\n{spans}{journeys}")?;
     let mut s = [Span::BLANK; 8];
     let mut j = [Journey::BLANK; 8];
-    let Ok(reading) = ClosedReading::read(text.as_bytes(), &mut s, &mut j) else {
-        return Ok(tallies);
+    let Ok(reading) = ClosedReading::read(&instance_at(period), &mut s, &mut j) else {
+        return tallies;
     };
     for _ in 0..TABLES {
         let spans = made::spans(&mut dice, period);
         let journeys = made::journeys(&mut dice);
         let _ = trials_with(&reading, &spans, &journeys, &mut dice, &mut tallies);
     }
-    Ok(tallies)
+    tallies
 }
 
 fn main(rt: HostRuntime) -> io::Result<()> {
     for period in [2, 3, 10, 59, 60, 63, 64] {
-        println!(rt; "period {period}: {}", trials_at(rt.alloc(), period)?)?;
+        println!(rt; "period {period}: {}", trials_at(period))?;
     }
     Ok(())
 }

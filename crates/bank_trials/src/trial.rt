@@ -36,11 +36,11 @@ pub fn narrows_to<B: Bank>(bank: &B, k: usize, before: [u64; 6], after: [u64; 6]
 pub fn records_once<R: Record, B: Bank>(
     bank: &B,
     table: &[R],
+    period: u8,
     sets: u8,
     dice: &mut Dice,
     tally: &mut Tally,
 ) {
-    let period = bank.period();
     let family = made::family(dice, sets);
     let minutes = made::minutes(dice, period);
     let valid = below(&minutes, bank.reach(), period);

@@ -77,12 +77,13 @@ fn main(rt: HostRuntime) -> io::Result<()> {
         tell_line(&rt, line.as_str())?;
     }
     let mut spans = [Span::BLANK; 300];
-    for (name, text) in [
-        ("60,000 bytes", long_text(rt.alloc(), 60_000)?),
-        ("60,001 bytes", long_text(rt.alloc(), 60_001)?),
-        ("256 spans", many_spans(rt.alloc(), 256)?),
-        ("257 spans", many_spans(rt.alloc(), 257)?),
-    ] {
+    // one text at a time, so that each line is written before the next text is made
+    for (name, length) in [("60,000 bytes", 60_000), ("60,001 bytes", 60_001)] {
+        let text = long_text(rt.alloc(), length)?;
+        tell(&rt, name, text.as_slice(), &mut spans)?;
+    }
+    for (name, count) in [("256 spans", 256), ("257 spans", 257)] {
+        let text = many_spans(rt.alloc(), count)?;
         tell(&rt, name, text.as_slice(), &mut spans)?;
     }
     Ok(())
