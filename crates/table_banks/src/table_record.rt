@@ -110,7 +110,8 @@ impl TableRecord for Span {
         {
             return Err(Refusal::Range);
         }
-        if !are_good(&[self.from, self.to], most) {
+        // not by `are_good`, which stays a call: a fill tests up to 256 spans
+        if !is_good(self.from, &[self.to], most) || !is_good(self.to, &[], most) {
             return Err(Refusal::Event);
         }
         Ok(())
